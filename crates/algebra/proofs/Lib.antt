@@ -1,0 +1,12 @@
+pub mod Field
+pub mod Pick
+pub mod Sum
+pub mod Polynomial
+pub mod Weight
+pub mod RowCode
+pub mod Coupling
+pub mod Encoding
+pub mod Rebuild
+pub mod Needed
+pub mod Square
+pub mod Elimination

@@ -1,0 +1,159 @@
+-- Lagrange's weights: each is 1 at its own point and 0 at the others, and a polynomial is the weighted sum of its
+-- values.
+use mathlib.Core.Path.{_≡_, refl, sym, ap, ap₂, _∙_}
+use mathlib.Core.Logic.{_≢_}
+use Prim.Native.Nat.{ℕ, zero, suc, _≤_, _<_}
+use native.Mathlib.Omega.{arith}
+use native.Mathlib.Decide.{ℕ-discrete}
+use Rattle.algebra.specs.Field.{Field}
+use Rattle.algebra.specs.Pick.{pick}
+use Rattle.algebra.specs.Sum.{sum}
+use Rattle.algebra.specs.Polynomial.{Polynomial, Distinct, Avoids}
+use Rattle.algebra.specs.Weight.{weight, product, productBut}
+use Rattle.algebra.proofs.Field.{
+  ring,
+  add-self,
+  mul-zero,
+  zero-mul,
+  mul-one,
+  mul-comm,
+  mul-assoc,
+  add-ne-zero,
+  mul-ne-zero,
+  inv-ne-zero,
+  inv-mul-left,
+}
+use Rattle.algebra.proofs.Sum.{sum-one}
+use Rattle.algebra.proofs.Polynomial.{apart, poly-one, poly-scale, poly-linear, poly-sum, agree}
+
+module _ (K : Field) where
+  infixl 65 _⊕_
+  infixl 70 _⊗_
+  open Field K using (carrier as F, 𝟘, 𝟙, add as _⊕_, mul as _⊗_, inv)
+
+  module _ (x : ℕ → F) (j : ℕ) where
+    -- The weight among one point more, by the decision whether that point is the point j.
+    abbrev next : (m : ℕ) → Dec (m ≡ j) → F → F
+    next m d z = pick d (weight K m x j z) (inv (x j ⊕ x m) ⊗ ((z ⊕ x m) ⊗ weight K m x j z))
+
+    -- Before the point j comes, the weight among m points has a factor for each.
+    weight-before : (m : ℕ) → m ≤ j → Polynomial K (suc m) (weight K m x j)
+    unfolding weight
+    weight-before zero l = poly-one K 1 (omega arith)
+    weight-before (suc m) l = go (ℕ-discrete m j) (weight-before m (omega arith))
+      where
+        go : (d : Dec (m ≡ j)) → Polynomial K (suc m) (weight K m x j) → Polynomial K (suc (suc m)) (next m d)
+        go (yes e) P = absurd (omega arith)
+        go (no n) P = poly-scale K (inv (x j ⊕ x m)) (poly-linear K (x m) P)
+
+    -- A weight among m points is a polynomial of degree below m.
+    pub weight-poly : (m : ℕ) → j < m → Polynomial K m (weight K m x j)
+    unfolding weight
+    weight-poly zero l = absurd (omega arith)
+    weight-poly (suc m) l = go (ℕ-discrete m j) (weight-poly m)
+      where
+        go : (d : Dec (m ≡ j)) → (j < m → Polynomial K m (weight K m x j)) → Polynomial K (suc m) (next m d)
+        go (yes e) P = weight-before m (omega arith)
+        go (no n) P = poly-scale K (inv (x j ⊕ x m)) (poly-linear K (x m) (P (omega arith)))
+
+    -- A weight is 1 at its own point.
+    pub weight-at : (m : ℕ) → Avoids K m x j (x j) → weight K m x j (x j) ≡ 𝟙
+    unfolding weight
+    weight-at zero a = refl
+    weight-at (suc m) a = go (ℕ-discrete m j) (weight-at m (λ i l. a i (omega arith)))
+      where
+        go : (d : Dec (m ≡ j)) → weight K m x j (x j) ≡ 𝟙 → next m d (x j) ≡ 𝟙
+        go (yes e) h = h
+        go (no n) h =
+            inv-mul-left K (x j ⊕ x m) (weight K m x j (x j)) (add-ne-zero K (x j) (x m) (a m (omega arith) n)) ∙ h
+
+    -- A weight is 0 at the other points.
+    pub weight-off : (m i : ℕ) → i < m → i ≢ j → weight K m x j (x i) ≡ 𝟘
+    unfolding weight
+    weight-off zero i l n = absurd (omega arith)
+    weight-off (suc m) i l n = go (ℕ-discrete m j) (ℕ-discrete i m) (λ l. weight-off m i l n)
+      where
+        go : (d : Dec (m ≡ j)) → Dec (i ≡ m) → (i < m → weight K m x j (x i) ≡ 𝟘) → next m d (x i) ≡ 𝟘
+        go (yes e) q h = h (omega arith)
+        go (no e) (yes q) h = rw (q, add-self, zero-mul, mul-zero)
+        go (no e) (no q) h = rw (h (omega arith), mul-zero, mul-zero)
+
+    -- A weight is not 0 away from the other points.
+    pub weight-ne : (z : F) (m : ℕ) → Avoids K m x j (x j) → Avoids K m x j z → weight K m x j z ≢ 𝟘
+    unfolding weight
+    weight-ne z zero a b = K .one-ne-zero
+    weight-ne z (suc m) a b = go (ℕ-discrete m j) (weight-ne z m (λ i l. a i (omega arith)) (λ i l. b i (omega arith)))
+      where
+        go : (d : Dec (m ≡ j)) → weight K m x j z ≢ 𝟘 → next m d z ≢ 𝟘
+        go (yes e) h = h
+        go (no n) h =
+            mul-ne-zero K (inv (x j ⊕ x m)) ((z ⊕ x m) ⊗ weight K m x j z)
+            (inv-ne-zero K (x j ⊕ x m) (add-ne-zero K (x j) (x m) (a m (omega arith) n)))
+            (mul-ne-zero K (z ⊕ x m) (weight K m x j z) (add-ne-zero K z (x m) (b m (omega arith) n)) h)
+
+    -- The step of `weight-product`.
+    regroup : (i d z w p : F) → i ⊗ (z ⊗ w) ⊗ (p ⊗ d) ≡ i ⊗ (d ⊗ (w ⊗ p ⊗ z))
+    regroup i d z w p = simp ring
+
+    -- A weight as a quotient of two products, with no inverse but one: what a program computes.
+    pub weight-product : (z : F) (m : ℕ) → Avoids K m x j (x j)
+        → weight K m x j z ⊗ productBut K m j (λ i. x j ⊕ x i) ≡ productBut K m j (λ i. z ⊕ x i)
+    unfolding weight productBut
+    weight-product z zero a = mul-one K 𝟙
+    weight-product z (suc m) a = go (ℕ-discrete m j) (weight-product z m (λ i l. a i (omega arith)))
+      where
+        below : F
+        below = productBut K m j (λ i. x j ⊕ x i)
+
+        above : F
+        above = productBut K m j (λ i. z ⊕ x i)
+
+        go : (d : Dec (m ≡ j)) → weight K m x j z ⊗ below ≡ above
+            → next m d z ⊗ pick d below (below ⊗ (x j ⊕ x m)) ≡ pick d above (above ⊗ (z ⊕ x m))
+        go (yes e) h = h
+        go (no n) h =
+            regroup (inv (x j ⊕ x m)) (x j ⊕ x m) (z ⊕ x m) (weight K m x j z) below
+            ∙ inv-mul-left K (x j ⊕ x m) _ (add-ne-zero K (x j) (x m) (a m (omega arith) n))
+            ∙ ap (λ p. p ⊗ (z ⊕ x m)) h
+
+  -- A product whose factors do not reach j is whole.
+  product-before : (m j : ℕ) (f : ℕ → F) → m ≤ j → productBut K m j f ≡ product K m f
+  unfolding product productBut
+  product-before zero j f l = refl
+  product-before (suc m) j f l = go (ℕ-discrete m j) (product-before m j f (omega arith))
+    where
+      go : (d : Dec (m ≡ j)) → productBut K m j f ≡ product K m f
+          → pick d (productBut K m j f) (productBut K m j f ⊗ f m) ≡ product K m f ⊗ f m
+      go (yes e) h = absurd (omega arith)
+      go (no n) h = ap (λ p. p ⊗ f m) h
+
+  -- A product is any one of its factors times the others.
+  pub product-split : (m j : ℕ) (f : ℕ → F) → j < m → product K m f ≡ f j ⊗ productBut K m j f
+  unfolding product productBut
+  product-split zero j f l = absurd (omega arith)
+  product-split (suc m) j f l = go (ℕ-discrete m j) (product-split m j f)
+    where
+      go : (d : Dec (m ≡ j)) → (j < m → product K m f ≡ f j ⊗ productBut K m j f)
+          → product K m f ⊗ f m ≡ f j ⊗ pick d (productBut K m j f) (productBut K m j f ⊗ f m)
+      go (yes e) h = ap₂ (λ p i. p ⊗ f i) (sym (product-before m j f (omega arith))) e ∙ mul-comm K _ (f j)
+      go (no n) h = ap (λ p. p ⊗ f m) (h (omega arith)) ∙ mul-assoc K (f j) (productBut K m j f) (f m)
+
+  -- A polynomial of degree below k is the sum of its values at k distinct points, each times its weight.
+  pub lagrange : (k : ℕ) (x : ℕ → F) → Distinct K k x → {f : F → F} → Polynomial K k f
+      → (z : F) → f z ≡ sum K k (λ j. f (x j) ⊗ weight K k x j z)
+  lagrange k x d {f} P = agree K k x d P (poly-sum K k term term-poly) at
+    where
+      term : ℕ → F → F
+      term j z = f (x j) ⊗ weight K k x j z
+
+      term-poly : (j : ℕ) → j < k → Polynomial K k (term j)
+      term-poly j l = poly-scale K (f (x j)) (weight-poly x j k l)
+
+      own : (i : ℕ) → i < k → term i (x i) ≡ f (x i)
+      own i l = ap (λ w. f (x i) ⊗ w) (weight-at x i k (apart K k x d i l)) ∙ mul-one K (f (x i))
+
+      other : (i j : ℕ) → i < k → j ≢ i → term j (x i) ≡ 𝟘
+      other i j l n = ap (λ w. f (x j) ⊗ w) (weight-off x j k i l (λ e. n (sym e))) ∙ mul-zero K (f (x j))
+
+      at : (i : ℕ) → i < k → f (x i) ≡ sum K k (λ j. term j (x i))
+      at i l = sym (sum-one K k i (λ j. term j (x i)) l (λ j h. other i j l) ∙ own i l)

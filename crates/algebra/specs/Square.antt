@@ -1,0 +1,76 @@
+-- Square matrices, given below m alone, and their elimination by row steps.
+--
+-- dot K m r v        : r 0 ⊗ v 0 ⊕ .. ⊕ r (m-1) ⊗ v (m-1)
+-- unit K p           : the vector that is 𝟙 at p and 𝟘 elsewhere
+-- Matrix K           : an entry for each row and column, row first
+-- times K m M v      : the matrix M of m columns applied to the vector v
+-- Solves K m M b v   : M v = b in the first m rows
+-- Kernel K m M       : a vector other than zero that M takes to zero
+-- Inverse K m M T    : T is the inverse of M
+-- Step K m p c M N   : N comes from M by adding c i times row p to each row i
+-- Reached K m M N T  : N and T come from M and the unit matrix by the same row steps
+-- Reduced K r m M    : the first r columns of M are those of the unit matrix
+-- coefficient K r M  : the multiples of row r by which a step makes column r that of the unit matrix
+use mathlib.Core.Path.{_≡_}
+use mathlib.Core.Logic.{_≢_}
+use Prim.Native.Nat.{ℕ, _<_}
+use native.Mathlib.Decide.{ℕ-discrete}
+use Rattle.algebra.specs.Field.{Field}
+use Rattle.algebra.specs.Pick.{pick}
+use Rattle.algebra.specs.Sum.{sum}
+
+module _ (K : Field) where
+  infixl 65 _⊕_
+  infixl 70 _⊗_
+  open Field K using (carrier as F, 𝟘, 𝟙, add as _⊕_, mul as _⊗_, inv)
+
+  -- A row of coefficients applied to a vector.
+  unfoldable pub dot : ℕ → (ℕ → F) → (ℕ → F) → F
+  dot m r v = sum K m (λ j. r j ⊗ v j)
+
+  -- The unit vector at p; row p of the unit matrix.
+  abbrev pub unit : ℕ → ℕ → F
+  unit p j = pick (ℕ-discrete j p) 𝟙 𝟘
+
+  -- An entry for each row and column.
+  abbrev pub Matrix : Type 0
+  Matrix = ℕ → ℕ → F
+
+  -- A matrix of m columns applied to a vector.
+  abbrev pub times : ℕ → Matrix → (ℕ → F) → ℕ → F
+  times m M v i = dot m (M i) v
+
+  -- v solves M v = b.
+  abbrev pub Solves : ℕ → Matrix → (ℕ → F) → (ℕ → F) → Type 0
+  Solves m M b v = (i : ℕ) → i < m → times m M v i ≡ b i
+
+  -- `vector` is not zero, and M takes it to zero.
+  pub record Kernel (m : ℕ) (M : Matrix) : Type 0 where
+    pub vector : ℕ → F
+    pub at : ℕ
+    pub below : at < m
+    pub nonzero : vector at ≢ 𝟘
+    pub kills : Solves m M (λ i. 𝟘) vector
+
+  -- M v = b exactly for v = T b.
+  pub record Inverse (m : ℕ) (M T : Matrix) : Type 0 where
+    pub unique : (b v : ℕ → F) → Solves m M b v → (j : ℕ) → j < m → v j ≡ times m T b j
+    pub solves : (b : ℕ → F) → Solves m M b (times m T b)
+
+  -- To each row i is added c i times row p.
+  abbrev pub Step : ℕ → ℕ → (ℕ → F) → Matrix → Matrix → Type 0
+  Step m p c M N = (i j : ℕ) → i < m → j < m → N i j ≡ M i j ⊕ c i ⊗ M p j
+
+  -- What row steps keep: M v = b exactly where N v = T b.
+  pub record Reached (m : ℕ) (M N T : Matrix) : Type 0 where
+    pub forth : (b v : ℕ → F) → Solves m M b v → Solves m N (times m T b) v
+    pub back : (b v : ℕ → F) → Solves m N (times m T b) v → Solves m M b v
+
+  -- The first r columns of the m rows are those of the unit matrix.
+  pub record Reduced (r m : ℕ) (M : Matrix) : Type 0 where
+    pub one : (j : ℕ) → j < r → M j j ≡ 𝟙
+    pub off : (i j : ℕ) → i < m → j < r → i ≢ j → M i j ≡ 𝟘
+
+  -- What is added to row i, as a multiple of row r, so that column r has 1 in row r and 0 elsewhere.
+  unfoldable pub coefficient : ℕ → Matrix → ℕ → F
+  coefficient r M i = pick (ℕ-discrete i r) (𝟙 ⊕ inv (M r r)) (M i r ⊗ inv (M r r))

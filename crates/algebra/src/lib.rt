@@ -1,0 +1,1 @@
+// Mathematics alone: definitions in specs/, theorems in proofs/.

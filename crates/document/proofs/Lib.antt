@@ -1,0 +1,5 @@
+pub mod Bytes
+pub mod Decides
+pub mod Accepts
+pub mod Bounds
+pub mod Arrays

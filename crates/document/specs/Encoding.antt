@@ -1,0 +1,97 @@
+-- 'The field and the row code', 'Coupling': the array that document 01 defines, at each byte offset b of a strip on its own.
+--
+-- start q         : where the strip of the place q starts in memory
+-- byteAt x b q    : byte b of that strip, in data or in an array x
+-- baseAt d b q    : the base symbol of the data d at the place q
+-- constantOf i l  : the coupling constant of the lower strip at row i, local column l
+-- coupledAt a q   : what is stored at q where the base symbols are a
+-- laidOut m f     : m nodes in memory's order, with f b q at byte b of the place q
+-- columnOf f j    : the column of node j among them
+-- encoded d       : the encoded array of the data d
+-- encodeOf p d x  : encoding d into x: the answer, and what x holds then
+use mathlib.Core.Bool.{Bool, _&&_, not}
+use mathlib.Core.List.{List, [], _∷_, _++_}
+use Prim.Native.Nat.{ℕ, _+_, _*_, _/_, _%_}
+use native.Mathlib.Decide.{ℕ-discrete, decLt}
+use lib.Dec.{eqb}
+use lib.ListN.{length, getD}
+use Rattle.lists.specs.Listed.{listed}
+use Rattle.algebra.specs.Field.{Field}
+use Rattle.algebra.specs.Pick.{pick}
+use Rattle.algebra.specs.Sum.{sum}
+use Rattle.algebra.specs.Weight.{weight}
+use Rattle.document.specs.declared.Numbers.{Numbers}
+use Rattle.document.specs.declared.Profile.{Profile}
+use Rattle.document.specs.declared.Place.{Place}
+use Rattle.document.specs.declared.Refusal.the-variants.{BufferLength}
+use Rattle.document.specs.declared.Answer.{Answer}
+use Rattle.document.specs.declared.Answer.the-variants.{Done, Refused}
+use Rattle.document.specs.Refusals.{Test, tried}
+use Rattle.document.specs.Profile.{profileTests, profileOf}
+use Rattle.document.specs.Places.{place, localColumn, partnerOf}
+use Rattle.document.specs.Bytes.{bytes, Byte, byte, number}
+
+infixl 65 _⊕_
+infixl 70 _⊗_
+open Field bytes using (add as _⊕_, mul as _⊗_)
+
+module _ (p : Profile) where
+  open Profile p using (n, k, a as A, t, s as S)
+
+  -- 'In memory, strip (row i, node j) starts at (jA+i)S; data use the same order with j < k.'
+  unfoldable pub start : Place → ℕ
+  start q = (q .node .0 * A + q .row .0) * S
+
+  unfoldable pub byteAt : List ℕ → ℕ → Place → Byte
+  byteAt x b q = byte (getD x (start q + b) 0)
+
+  -- 'Node j has the point j, the field element with that number. One row of base symbols a(i,0)..a(i,n-1) is the list of
+  -- values, at the points 0..n-1, of a polynomial of degree below k. The data are the symbols with j < k, free.'
+  -- By Lagrange's formula: each data symbol of the row times its weight at the point j, added up.
+  unfoldable pub baseAt : List ℕ → ℕ → Place → Byte
+  baseAt d b q = sum bytes k (λ m. byteAt d b (place m (q .row .0)) ⊗ weight bytes k byte m (byte (q .node .0)))
+
+  -- 't (the coupling constant θ)', the same for all pairs
+  unfoldable pub constantOf : ℕ → ℕ → Byte
+  constantOf i l = byte t
+
+  -- 'The stored strip x(i,j) is: a(i,j) where i = l; a(i,j) + a(partner) where i < l; a(i,j) + t·a(partner) where i > l.'
+  unfoldable pub coupledAt : (Place → Byte) → Place → Byte
+  coupledAt a q =
+      let i : ℕ = q .row .0 in
+      let l : ℕ = localColumn A (q .node) in
+      pick (ℕ-discrete i l) (a q)
+      (pick (decLt i l) (a q ⊕ a (partnerOf A q)) (a q ⊕ constantOf i l ⊗ a (partnerOf A q)))
+
+  -- Strip z in memory is that of node z div A, row z mod A.
+  unfoldable pub laidOut : ℕ → (ℕ → Place → Byte) → List ℕ
+  laidOut m f = listed (m * A * S) (λ e. number (f (e % S) (place (e / S / A) (e / S % A))))
+
+  -- 'A node's column is its A strips, row 0 first.'
+  unfoldable pub columnOf : (ℕ → Place → Byte) → ℕ → List ℕ
+  columnOf f j = listed (A * S) (λ o. number (f (o % S) (place j (o / S))))
+
+  -- The rows of base symbols, not coupled, in memory's order.
+  unfoldable pub plain : List ℕ → List ℕ
+  plain d = laidOut n (baseAt d)
+
+  -- An array of any bytes taken for base symbols, and coupled.
+  unfoldable pub coupled : List ℕ → List ℕ
+  coupled x = laidOut n (λ b. coupledAt (byteAt x b))
+
+  -- 'An encoded array is a stored array that some data give.'
+  unfoldable pub encoded : List ℕ → List ℕ
+  encoded d = laidOut n (λ b. coupledAt (baseAt d b))
+
+-- The refusals of encoding: 1, 2, 3, then 5 for data not of kAS bytes or an array not of nAS bytes.
+unfoldable pub encodeTests : Numbers → List ℕ → List ℕ → List Test
+encodeTests p d x =
+    profileTests p
+    ++ (record {
+      refusal = BufferLength;
+      holds = not (eqb (length d) (p .k * p .a * p .s) && eqb (length x) (p .n * p .a * p .s));
+    }
+    ∷ [])
+
+unfoldable pub encodeOf : Numbers → List ℕ → List ℕ → Answer × List ℕ
+encodeOf p d x = tried (encodeTests p d x) (λ r. (Refused r, x)) (Done 0, encoded (profileOf p) d)

@@ -1,0 +1,5 @@
+pub mod Refusals
+pub mod Profile
+pub mod Places
+pub mod Bytes
+pub mod Encoding

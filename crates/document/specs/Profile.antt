@@ -1,0 +1,71 @@
+-- 'Profile numbers'
+--
+-- maxNodes, maxRows, maxStrip : the ceilings
+-- Accepted p                  : p is an accepted profile
+-- shapeAccepted n k A         : n, k and A are accepted, as a test
+-- profileTests p              : the refusals 1, 2 and 3 in their order
+-- checkedOf p                 : the profile with the numbers p, or its first refusal
+use mathlib.Core.Path.{_≡_}
+use mathlib.Core.Bool.{Bool, _&&_, not}
+use mathlib.Core.List.{List, [], _∷_}
+use Prim.Native.Nat.{ℕ, _-_, _%_, _≤_, _<_}
+use lib.Dec.{eqb, leb, ltb}
+use Rattle.document.specs.declared.Numbers.{Numbers}
+use Rattle.document.specs.declared.Profile.{Profile}
+use Rattle.document.specs.declared.Refusal.the-variants.{Shape, Constant, StripLength}
+use Rattle.document.specs.declared.Checked.{Checked}
+use Rattle.document.specs.declared.Checked.the-variants.{Accepted as passes, Rejected}
+use Rattle.document.specs.Refusals.{Test, tried}
+
+-- 'The ceilings are 24 nodes, 4 rows and 512 bytes of strip'
+abbrev pub maxNodes : ℕ
+maxNodes = 24
+
+abbrev pub maxRows : ℕ
+maxRows = 4
+
+abbrev pub maxStrip : ℕ
+maxStrip = 512
+
+-- 'k at least 1; n above k; 2 <= A <= 4; A at most n-k; A divides n; n at most 24'
+pub record ShapeAccepted (n k A : ℕ) : Type 0 where
+  pub some-data : 1 ≤ k
+  pub some-parity : k < n
+  pub two-rows : 2 ≤ A
+  pub few-rows : A ≤ maxRows
+  pub enough-parity : A ≤ n - k
+  pub whole-groups : n % A ≡ 0
+  pub few-nodes : n ≤ maxNodes
+
+-- 't in 2..255; S in 1..512'
+pub record Accepted (p : Profile) : Type 0 where
+  pub shape : ShapeAccepted (p .n) (p .k) (p .a)
+  pub above-one : 2 ≤ p .t
+  pub byte : p .t ≤ 255
+  pub some-bytes : 1 ≤ p .s
+  pub short : p .s ≤ maxStrip
+
+-- The same as tests.
+unfoldable pub shapeAccepted : ℕ → ℕ → ℕ → Bool
+shapeAccepted n k A =
+    leb 1 k && (ltb k n && (leb 2 A && (leb A maxRows && (leb A (n - k) && (eqb (n % A) 0 && leb n maxNodes)))))
+
+unfoldable pub constantAccepted : ℕ → Bool
+constantAccepted t = leb 2 t && leb t 255
+
+unfoldable pub stripAccepted : ℕ → Bool
+stripAccepted S = leb 1 S && leb S maxStrip
+
+-- Refusals 1, 2 and 3.
+unfoldable pub profileTests : Numbers → List Test
+profileTests p =
+    record { refusal = Shape; holds = not (shapeAccepted (p .n) (p .k) (p .a)) }
+    ∷ record { refusal = Constant; holds = not (constantAccepted (p .t)) }
+    ∷ record { refusal = StripLength; holds = not (stripAccepted (p .s)) }
+    ∷ []
+
+abbrev pub profileOf : Numbers → Profile
+profileOf p = record { n = p .n; k = p .k; a = p .a; t = p .t; s = p .s }
+
+unfoldable pub checkedOf : Numbers → Checked
+checkedOf p = tried (profileTests p) Rejected (passes (profileOf p))

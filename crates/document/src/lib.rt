@@ -1,0 +1,171 @@
+// The types that all crates above share, in document 01's words, and the profile's constructor that refuses.
+ghost use mathlib.Core.Path.{_≡_};
+ghost use Prim.Native.Nat.{_/_, _%_, _<_};
+ghost use Rattle.document.specs.Bytes.{number};
+ghost use Rattle.document.specs.Profile.{Accepted, shapeAccepted, checkedOf};
+ghost use Rattle.document.specs.Places.{place, partnerOf, Within};
+ghost use Rattle.document.specs.Encoding;
+ghost use Rattle.document.specs.Encoding.{constantOf};
+
+// The numbers of a profile as they are handed in: any numbers whatever.
+pub struct Numbers {
+    pub n: usize,
+    pub k: usize,
+    pub a: usize,
+    pub t: usize,
+    pub s: usize,
+}
+
+// An accepted profile: nodes, data nodes, rows, coupling constant, strip length in bytes.
+pub struct Profile {
+    pub n: usize,
+    pub k: usize,
+    pub a: usize,
+    pub t: u8,
+    pub s: usize,
+}
+
+// A node's number. A row's number is another type: staff read the two off different labels.
+pub struct Node(pub usize);
+
+pub struct Row(pub usize);
+
+// A place is written node first, then row.
+pub struct Place {
+    pub node: Node,
+    pub row: Row,
+}
+
+// Why a call is refused; `numberOf` in specs/ gives document 01's number for each.
+pub enum Refusal {
+    Shape,
+    Constant,
+    StripLength,
+    NodeNumber,
+    BufferLength,
+    BundleForm,
+    BundleHead,
+    Misplaced(usize),
+    Stale(usize),
+    Ambiguous,
+}
+
+// The answer of every call but the survey.
+pub enum Answer {
+    Done(usize),
+    Refused(Refusal),
+}
+
+// The outcome of looking at a profile's numbers.
+pub enum Checked {
+    Accepted(Profile),
+    Rejected(Refusal),
+}
+
+// Whether n, k and A are accepted together.
+fn accepts_shape(n: usize, k: usize, a: usize) -> bool
+    ensures { λ r. ⌜ r ≡ shapeAccepted n k a ⌝ }
+{
+    if k < 1 {
+        return false;
+    }
+    if n <= k {
+        return false;
+    }
+    if a < Profile::MIN_ROWS {
+        return false;
+    }
+    if Profile::MAX_ROWS < a {
+        return false;
+    }
+    if n - k < a {
+        return false;
+    }
+    if n % a != 0 {
+        return false;
+    }
+    n <= Profile::MAX_NODES
+}
+
+impl Profile {
+    pub const MAX_NODES: usize = 24;
+
+    pub const MIN_ROWS: usize = 2;
+
+    pub const MAX_ROWS: usize = 4;
+
+    pub const MIN_CONSTANT: usize = 2;
+
+    pub const MAX_CONSTANT: usize = 255;
+
+    pub const MAX_STRIP: usize = 512;
+
+    // The profile with these numbers, or the first refusal that applies.
+    pub fn new(p: Numbers) -> Checked
+        ensures { λ r. ⌜ r ≡ checkedOf p ⌝ }
+    {
+        let t = p.t;
+        let s = p.s;
+        if !accepts_shape(p.n, p.k, p.a) {
+            return Checked::Rejected(Refusal::Shape);
+        }
+        if t < Profile::MIN_CONSTANT {
+            return Checked::Rejected(Refusal::Constant);
+        }
+        if Profile::MAX_CONSTANT < t {
+            return Checked::Rejected(Refusal::Constant);
+        }
+        if s < 1 {
+            return Checked::Rejected(Refusal::StripLength);
+        }
+        if Profile::MAX_STRIP < s {
+            return Checked::Rejected(Refusal::StripLength);
+        }
+        Checked::Accepted(Profile {
+            n: p.n,
+            k: p.k,
+            a: p.a,
+            t: t as u8,
+            s: s,
+        })
+    }
+    // The place of strip z in memory's order.
+    pub fn place(self, z: usize) -> Place
+        requires { ⌜ Accepted self ⌝ }
+        ensures { λ r. ⌜ r ≡ place (z / self .a) (z % self .a) ⌝ }
+    {
+        Place {
+            node: Node(z / self.a),
+            row: Row(z % self.a),
+        }
+    }
+
+    // The place coupled with q.
+    pub fn partner(self, q: Place) -> Place
+        requires { ⌜ Accepted self × Within self q ⌝ }
+        ensures { λ r. ⌜ r ≡ partnerOf (self .a) q ⌝ }
+    {
+        let j = q.node.0;
+        let i = q.row.0;
+        Place {
+            node: Node(j / self.a * self.a + i),
+            row: Row(j % self.a),
+        }
+    }
+
+    // Where the strip of q starts in memory.
+    pub fn start(self, q: Place) -> usize
+        requires { ⌜ Accepted self × Within self q ⌝ }
+        ensures { λ r. ⌜ r ≡ Encoding.start self q ⌝ }
+    {
+        (q.node.0 * self.a + q.row.0) * self.s
+    }
+
+    // The coupling constant of the lower strip at a row and a local column: the only function that reads t.
+    pub fn constant(self, i: Row, l: usize) -> u8
+        requires { ⌜ Accepted self ⌝ }
+        ensures { λ r. ⌜ r ≡ number (constantOf self (i .0) l) ⌝ }
+    {
+        self.t
+    }
+}

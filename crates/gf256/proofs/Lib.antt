@@ -1,0 +1,7 @@
+pub mod Test
+pub mod Xor
+pub mod Product
+pub mod Tables
+pub mod Powers
+pub mod Ring
+pub mod Lists

@@ -1,0 +1,92 @@
+-- Products, quotients and inverses by logarithms.
+use mathlib.Core.Path.{_≡_, refl, sym, ap, ap₂, _∙_}
+use Prim.Native.Nat.{ℕ, zero, suc, _+_, _-_, _*_, _/_, _%_, _<_}
+use native.Mathlib.Nat.{suc-mul, mul-suc, zero-mul, add-comm, suc-add, zero-add}
+use native.Mathlib.Omega.{arith}
+use lib.Dec.{lit<}
+use Rattle.gf256.specs.Field.{_⊕_, _⊗_, double, power, log, raised, inverse}
+use Rattle.gf256.proofs.Product as P
+use Rattle.gf256.proofs.Tables.{log-lt}
+pub use Rattle.gf256.proofs.Tables.{power-log}
+
+pub power-lt : (n : ℕ) → power n < 256
+unfolding power
+power-lt zero = lit< tt
+power-lt (suc n) = P.double-lt (power n)
+
+pub power-add : (m n : ℕ) → power (m + n) ≡ power m ⊗ power n
+unfolding power
+power-add zero n = ap power (zero-add n) ∙ sym (P.one-mul (power n) (power-lt n))
+power-add (suc m) n =
+    ap power (suc-add m n) ∙ ap double (power-add m n) ∙ P.double-two (power m ⊗ power n)
+    ∙ sym (P.mul-assoc 2 (power m) (power n)) ∙ ap (λ (x : ℕ). x ⊗ power n) (sym (P.double-two (power m)))
+
+power-cycle : power 255 ≡ 1
+unfolding power double _⊕_
+power-cycle = refl
+
+power-multiple : (k : ℕ) → power (255 * k) ≡ 1
+unfolding power
+power-multiple zero = refl
+power-multiple (suc k) =
+    ap power (mul-suc 255 k) ∙ power-add (255 * k) 255 ∙ ap₂ _⊗_ (power-multiple k) power-cycle ∙ P.one-mul 1 (lit< tt)
+
+-- the powers of 2 repeat after 255
+pub power-over : (n : ℕ) → power (n % 255) ≡ power n
+power-over n =
+    sym (P.one-mul (power (n % 255)) (power-lt (n % 255)))
+    ∙ ap (λ (x : ℕ). x ⊗ power (n % 255)) (sym (power-multiple (n / 255)))
+    ∙ sym (power-add (255 * (n / 255)) (n % 255)) ∙ ap power (omega arith)
+
+raised-power : (k n : ℕ) → raised (power k) n ≡ power (n * k)
+unfolding raised power
+raised-power k zero = ap power (sym (zero-mul k))
+raised-power k (suc n) =
+    ap (λ (x : ℕ). power k ⊗ x) (raised-power k n) ∙ sym (power-add k (n * k))
+    ∙ ap power (add-comm k (n * k) ∙ sym (suc-mul n k))
+
+raised-lt : (a n : ℕ) → raised a n < 256
+unfolding raised
+raised-lt a zero = lit< tt
+raised-lt a (suc n) = P.mul-lt a (raised a n)
+
+pub inverse-lt : (a : ℕ) → inverse a < 256
+unfolding inverse
+inverse-lt a = raised-lt a 254
+
+pub inverse-zero : inverse 0 ≡ 0
+unfolding inverse raised
+inverse-zero = P.zero-mul (raised 0 253)
+
+module _ {a : ℕ} (p : 0 < a) (h : a < 256) where
+  pub mul-inverse : a ⊗ inverse a ≡ 1
+  unfolding inverse raised
+  mul-inverse =
+      ap (λ (x : ℕ). raised x 255) (sym (power-log a p h)) ∙ raised-power (log a) 255 ∙ power-multiple (log a)
+
+  pub inverse-above : 0 < inverse a
+  inverse-above = above (inverse a) mul-inverse
+    where
+      above : (b : ℕ) → a ⊗ b ≡ 1 → 0 < b
+      above zero e = let z : _≡_ {A = ℕ} 0 1 = sym (P.mul-zero a) ∙ e in omega arith
+      above (suc b) e = omega arith
+
+  -- the one byte whose product with a is 1
+  inverse-unique : {b : ℕ} → b < 256 → a ⊗ b ≡ 1 → inverse a ≡ b
+  inverse-unique {b} k e =
+      sym (P.mul-one (inverse a) (inverse-lt a)) ∙ ap (λ (x : ℕ). inverse a ⊗ x) (sym e)
+      ∙ P.mul-left-comm (inverse a) a b ∙ ap (λ (x : ℕ). a ⊗ x) (P.mul-comm (inverse a) b)
+      ∙ P.mul-left-comm a b (inverse a) ∙ ap (λ (x : ℕ). b ⊗ x) mul-inverse ∙ P.mul-one b k
+
+  pub inverse-power : inverse a ≡ power (255 - log a)
+  inverse-power =
+      inverse-unique (power-lt (255 - log a))
+      (ap (λ (x : ℕ). x ⊗ power (255 - log a)) (sym (power-log a p h)) ∙ sym (power-add (log a) (255 - log a))
+      ∙ ap power (omega (arith, log-lt a h)) ∙ power-cycle)
+
+module _ {a b : ℕ} (p : 0 < a) (h : a < 256) (q : 0 < b) (k : b < 256) where
+  pub mul-power : a ⊗ b ≡ power (log a + log b)
+  mul-power = sym (power-add (log a) (log b) ∙ ap₂ _⊗_ (power-log a p h) (power-log b q k))
+
+  pub quotient-power : a ⊗ inverse b ≡ power (log a + (255 - log b))
+  quotient-power = sym (power-add (log a) (255 - log b) ∙ ap₂ _⊗_ (power-log a p h) (sym (inverse-power q k)))

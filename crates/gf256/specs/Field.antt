@@ -1,0 +1,88 @@
+-- The byte field of document 01, 'The field and the row code', on plain numbers.
+--
+-- a ⊕ b               : the sum
+-- reduced             : what x^8 reduces to
+-- double a            : the product of 2 and a
+-- digitProduct n a b  : the product of a and the n lowest binary digits of b
+-- a ⊗ b               : the product
+-- power n             : the n-th power of 2
+-- log-from m n p a    : the logarithm of a among the m numbers from n on, where p is the power at n
+-- log a               : the logarithm of a; 0 for 0
+-- tableOf f           : the table of 256 entries that holds f at each byte
+-- raised a n          : the n-th power of a
+-- inverse a           : the inverse of a; 0 for 0
+-- productOf xs        : the product of all entries of xs
+-- quotientsOf xs ys   : each entry of xs divided by the entry of ys at its place
+-- NoZero ys           : no entry of ys is 0
+use Prim.Native.Nat.{ℕ, zero, suc, _*_, _/_, _%_, _<_}
+use mathlib.Core.Bool.{true, false}
+use mathlib.Core.List.{List, [], _∷_}
+use lib.Bits.{bitXor}
+use lib.Dec.{eqb}
+use lib.ListN.{length, getD}
+use Rattle.lists.specs.Listed.{listed}
+
+infixl 65 _⊕_
+infixl 70 _⊗_
+-- 'Adding is exclusive or.'
+unfoldable pub _⊕_ : ℕ → ℕ → ℕ
+_⊕_ a b = bitXor a b
+
+-- 'Reduced by x^8+x^4+x^3+x^2+1 (0x11D)': x^8 is the sum of the other four terms.
+abbrev pub reduced : ℕ
+reduced = 0x1d
+
+-- 'Bytes as polynomials over two elements': the digits move up by one, and one that leaves the byte is reduced.
+unfoldable pub double : ℕ → ℕ
+double a = (a * 2 % 256) ⊕ (reduced * (a / 128 % 2))
+
+-- The same sentence: the product of polynomials by the digits of the second, lowest first.
+unfoldable pub digitProduct : ℕ → ℕ → ℕ → ℕ
+digitProduct zero a b = 0
+digitProduct (suc n) a b = (a * (b % 2)) ⊕ digitProduct n (double a) (b / 2)
+
+-- The same sentence: the product of two bytes. A number past 255 counts as its lowest eight digits.
+unfoldable pub _⊗_ : ℕ → ℕ → ℕ
+_⊗_ a b = digitProduct 8 (a % 256) (b % 256)
+
+-- 'Powers of 2 and their logarithms come from fixed tables': the n-th power.
+unfoldable pub power : ℕ → ℕ
+power zero = 1
+power (suc n) = double (power n)
+
+-- The least of the m numbers from n on whose power is a, where p is the power at n; 0 if there is none.
+unfoldable pub log-from : ℕ → ℕ → ℕ → ℕ → ℕ
+log-from zero n p a = 0
+log-from (suc m) n p a = elim (eqb p a) [ true ↦ n | false ↦ log-from m (suc n) (double p) a ]
+
+-- 'Logarithms lie in 0..254, so that of 1 is 0, and the entry for 0, which has no logarithm, holds 0.'
+unfoldable pub log : ℕ → ℕ
+log a = log-from 255 0 1 a
+
+-- 'Fixed tables of 256 entries': the first is `tableOf power`, the second `tableOf log`.
+unfoldable pub tableOf : (ℕ → ℕ) → List ℕ
+tableOf f = listed 256 f
+
+-- The n-th power of any a, as a product of n factors.
+unfoldable pub raised : ℕ → ℕ → ℕ
+raised a zero = 1
+raised a (suc n) = a ⊗ raised a n
+
+-- 'Inverse of zero is given as 0; no other byte has inverse 0.' The 255th power of every other byte is 1.
+unfoldable pub inverse : ℕ → ℕ
+inverse a = raised a 254
+
+-- The product of a list, 1 for the empty one.
+unfoldable pub productOf : List ℕ → ℕ
+productOf [] = 1
+productOf (x ∷ xs) = x ⊗ productOf xs
+
+-- The quotients of two lists, place by place. Where the first is longer, its rest stays as it is.
+unfoldable pub quotientsOf : List ℕ → List ℕ → List ℕ
+quotientsOf [] ys = []
+quotientsOf (x ∷ xs) [] = x ∷ xs
+quotientsOf (x ∷ xs) (y ∷ ys) = (x ⊗ inverse y) ∷ quotientsOf xs ys
+
+-- What whoever divides by a list shows of it: every entry is above 0.
+abbrev pub NoZero : List ℕ → Type 0
+NoZero ys = (i : ℕ) → i < length ys → 0 < getD ys i 0

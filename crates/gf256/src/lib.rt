@@ -1,0 +1,106 @@
+// The field of 256 elements, by tables of the powers of 2 and of their logarithms.
+ghost use mathlib.Core.Path.{_≡_};
+ghost use Prim.Native.Nat.{_<_, _≤_};
+ghost use lib.ListN.{length};
+ghost use Rattle.gf256.specs.Field;
+ghost use Rattle.gf256.specs.Field.{_⊗_, power, tableOf, productOf, quotientsOf, NoZero};
+
+mod table;
+
+// The n-th power of 2: the powers repeat after 255.
+fn power_at(exp: &[u8; 256], n: usize) -> u8
+    requires { ⌜ now exp ≡ tableOf power ⌝ }
+    ensures { λ r. ⌜ r ≡ power n ⌝ }
+{
+    exp[n % 255]
+}
+
+// The logarithm; 0 for 0.
+fn log_at(log: &[u8; 256], a: u8) -> usize
+    requires { ⌜ now log ≡ tableOf Field.log ⌝ }
+    ensures { λ r. ⌜ (r ≡ Field.log a) × (r < 255) ⌝ }
+{
+    log[a as usize] as usize
+}
+
+// The product.
+pub fn mul(a: u8, b: u8) -> u8
+    ensures { λ r. ⌜ r ≡ a ⊗ b ⌝ }
+{
+    if a == 0 {
+        return 0;
+    }
+    if b == 0 {
+        return 0;
+    }
+    let log = table::logs();
+    let n = log_at(&log, a) + log_at(&log, b);
+    power_at(&table::powers(), n)
+}
+
+// The inverse; 0 for 0.
+pub fn inverse(a: u8) -> u8
+    ensures { λ r. ⌜ r ≡ Field.inverse a ⌝ }
+{
+    if a == 0 {
+        return 0;
+    }
+    let n = 255 - log_at(&table::logs(), a);
+    power_at(&table::powers(), n)
+}
+
+// The quotient, by the tables lent.
+fn quotient(exp: &[u8; 256], log: &[u8; 256], a: u8, b: u8) -> u8
+    requires { ⌜ (now exp ≡ tableOf power) × (now log ≡ tableOf Field.log) ⌝ }
+    requires { ⌜ 0 < b ⌝ }
+    ensures { λ r. ⌜ r ≡ a ⊗ Field.inverse b ⌝ }
+{
+    if a == 0 {
+        return 0;
+    }
+    let n = log_at(log, a) + (255 - log_at(log, b));
+    power_at(exp, n)
+}
+
+// The quotient. Whoever divides shows that the divisor is not 0.
+pub fn divide(a: u8, b: u8) -> u8
+    requires { ⌜ 0 < b ⌝ }
+    ensures { λ r. ⌜ r ≡ a ⊗ Field.inverse b ⌝ }
+{
+    quotient(&table::powers(), &table::logs(), a, b)
+}
+
+// The product of a short list, by the sum of the logarithms; 0 if an entry is 0.
+pub fn product_of(xs: &[u8]) -> u8
+    requires { ⌜ length (now xs) ≤ 64 ⌝ }
+    ensures { λ r. ⌜ r ≡ productOf (now (xs .entry)) ⌝ }
+{
+    let log = table::logs();
+    let mut sum: usize = 0;
+    let mut i = 0;
+    while i < xs.len() {
+        let x = xs[i];
+        if x == 0 {
+            return 0;
+        }
+        sum += log_at(&log, x);
+        i += 1;
+    }
+    power_at(&table::powers(), sum)
+}
+
+// Each entry of xs divided by the entry of ys at its place.
+pub fn divide_all(xs: &mut [u8], ys: &[u8])
+    requires { ⌜ length (now xs) ≡ length (now ys) ⌝ }
+    requires { ⌜ NoZero (now ys) ⌝ }
+    ensures { λ _. ⌜ now (xs .exit) ≡ quotientsOf (now (xs .entry)) (now (ys .entry)) ⌝ }
+{
+    let exp = table::powers();
+    let log = table::logs();
+    let mut i = 0;
+    while i < xs.len() {
+        let q = quotient(&exp, &log, xs[i], ys[i]);
+        xs[i] = q;
+        i += 1;
+    }
+}

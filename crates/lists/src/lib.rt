@@ -1,0 +1,1 @@
+// Lists alone: the definition in specs/, its laws in proofs/.
