@@ -1,17 +1,22 @@
 -- The tests of a profile decide whether its numbers are accepted.
-use mathlib.Core.Path.{_≡_, refl}
-use mathlib.Core.Bool.{Bool, true, false, _&&_, false≢true}
+use mathlib.Core.Path.{_≡_, refl, ap}
+use mathlib.Core.Bool.{Bool, true, false, _&&_, not, false≢true}
+use mathlib.Core.List.{List, [], _∷_, _++_}
 use Prim.Native.Nat.{ℕ, _-_, _%_, _≤_}
+use native.Mathlib.Omega.{arith}
 use lib.Dec.{leb, ltb, eqb}
 use Rattle.document.specs.declared.Numbers.{Numbers}
+use Rattle.document.specs.declared.Profile.{Profile}
+use Rattle.document.specs.declared.Refusal.{Refusal}
 use Rattle.document.specs.declared.Refusal.the-variants.{Shape, Constant, StripLength}
 use Rattle.document.specs.declared.Checked.the-variants.{Accepted as passes, Rejected}
-use Rattle.document.specs.Refusals.{tried, Decides}
+use Rattle.document.specs.Refusals.{Test, tried, Decides}
 use Rattle.document.specs.Profile.{
   maxNodes,
   maxRows,
   maxStrip,
   ShapeAccepted,
+  Accepted,
   shapeAccepted,
   constantAccepted,
   stripAccepted,
@@ -77,3 +82,78 @@ module _ (p : Numbers) where
       pub none-refused : stripAccepted (p .s) ≡ true → checkedOf p ≡ passes (profileOf p)
       unfolding checkedOf profileTests tried
       none-refused e = simp (shape, constant, e)
+
+-- ---- for the calls that try a profile's refusals first
+-- The tests of a profile, by their outcomes.
+abbrev outcomes : Bool → Bool → Bool → List Test
+outcomes shape constant strip =
+    record { refusal = Shape; holds = not shape }
+    ∷ record { refusal = Constant; holds = not constant }
+    ∷ record { refusal = StripLength; holds = not strip }
+    ∷ []
+
+module _ (p : Numbers) where
+  -- An accepted profile has the numbers handed in.
+  pub accepted : (q : Profile) → checkedOf p ≡ passes q → (q ≡ profileOf p) × Accepted q
+  unfolding checkedOf profileTests tried
+  accepted q e =
+      go (shapeAccepted (p .n) (p .k) (p .a)) (decides-shape (p .n) (p .k) (p .a)) (constantAccepted (p .t))
+      (decides-constant (p .t)) (stripAccepted (p .s)) (decides-strip (p .s)) e
+    where
+      differ : (r : Refusal) → Rejected r ≡ passes q → ⊥
+      differ r d = let z : _≡_ {A = ℕ} 0 1 = cc in omega arith
+
+      same : passes (profileOf p) ≡ passes q → q ≡ profileOf p
+      same d = cc
+
+      go : (shape : Bool) → Decides shape (ShapeAccepted (p .n) (p .k) (p .a))
+          → (constant : Bool) → Decides constant ((2 ≤ p .t) × (p .t ≤ 255))
+          → (strip : Bool) → Decides strip ((1 ≤ p .s) × (p .s ≤ maxStrip))
+          → tried (outcomes shape constant strip) Rejected (passes (profileOf p)) ≡ passes q
+          → (q ≡ profileOf p) × Accepted q
+      go false A b B c C d = absurd (differ Shape d)
+      go true A false B c C d = absurd (differ Constant d)
+      go true A true B false C d = absurd (differ StripLength d)
+      go true A true B true C d =
+          let e : q ≡ profileOf p = same d in (
+            e,
+            rw e (record {
+              shape = A .0 refl;
+              above-one = B .0 refl .0;
+              byte = B .0 refl .1;
+              some-bytes = C .0 refl .0;
+              short = C .0 refl .1;
+            }),
+          )
+
+  -- A call's further tests are tried where the profile is accepted, and only there.
+  module _ {X : Type 0} (tests : List Test) (refuse : Refusal → X) (x : X) where
+    pub tried-rejected : (r : Refusal) → checkedOf p ≡ Rejected r → tried (profileTests p ++ tests) refuse x ≡ refuse r
+    unfolding checkedOf profileTests tried
+    tried-rejected r e =
+        go (shapeAccepted (p .n) (p .k) (p .a)) (constantAccepted (p .t)) (stripAccepted (p .s)) e
+      where
+        go : (shape constant strip : Bool)
+            → tried (outcomes shape constant strip) Rejected (passes (profileOf p)) ≡ Rejected r
+            → tried (outcomes shape constant strip ++ tests) refuse x ≡ refuse r
+        go false b c d = let s : Shape ≡ r = cc in ap refuse s
+        go true false c d = let s : Constant ≡ r = cc in ap refuse s
+        go true true false d = let s : StripLength ≡ r = cc in ap refuse s
+        go true true true d = absurd (let z : _≡_ {A = ℕ} 0 1 = cc in omega arith)
+
+    pub tried-accepted : (q : Profile) → checkedOf p ≡ passes q
+        → tried (profileTests p ++ tests) refuse x ≡ tried tests refuse x
+    unfolding checkedOf profileTests tried
+    tried-accepted q e =
+        go (shapeAccepted (p .n) (p .k) (p .a)) (constantAccepted (p .t)) (stripAccepted (p .s)) e
+      where
+        differ : (r : Refusal) → Rejected r ≡ passes q → ⊥
+        differ r d = let z : _≡_ {A = ℕ} 0 1 = cc in omega arith
+
+        go : (shape constant strip : Bool)
+            → tried (outcomes shape constant strip) Rejected (passes (profileOf p)) ≡ passes q
+            → tried (outcomes shape constant strip ++ tests) refuse x ≡ tried tests refuse x
+        go false b c d = absurd (differ Shape d)
+        go true false c d = absurd (differ Constant d)
+        go true true false d = absurd (differ StripLength d)
+        go true true true d = refl

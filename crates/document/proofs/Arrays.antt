@@ -12,6 +12,7 @@ use Rattle.lists.specs.Listed.{listed}
 use Rattle.lists.proofs.Listed.{listed-length, listed-at, listed-ext, listed-add}
 use Rattle.algebra.specs.Field.{Field}
 use Rattle.algebra.specs.Pick.{pick}
+use Rattle.algebra.proofs.Pick.{pick-yes, pick-no}
 use Rattle.document.specs.declared.Profile.{Profile}
 use Rattle.document.specs.declared.Place.{Place}
 use Rattle.document.specs.Profile.{Accepted}
@@ -29,7 +30,7 @@ use Rattle.document.specs.Encoding.{
   coupled,
   encoded,
 }
-use Rattle.document.proofs.Bytes.{byte-number}
+use Rattle.document.proofs.Bytes.{number-lt, number-byte, byte-number}
 use Rattle.document.proofs.Bounds.{partner-within}
 
 infixl 65 _⊕_
@@ -51,6 +52,11 @@ module _ (p : Profile) where
     pub laid-length : length (laidOut p m f) ≡ m * A * S
     unfolding laidOut
     laid-length = listed-length (m * A * S) at-index
+
+    -- an array in memory's order is a list of bytes
+    pub laid-small : (e : ℕ) → e < length (laidOut p m f) → getD (laidOut p m f) e 0 < 256
+    unfolding laidOut
+    laid-small e l = rw (listed-at {X = ℕ} (m * A * S) _ e 0 (rw listed-length at l)) (number-lt _)
 
     -- byte b of strip z
     pub laid-strip : (z b : ℕ) → z < m * A → b < S
@@ -108,6 +114,31 @@ module _ (p : Profile) where
       at z b l r =
           let A>0 : 0 < A = factor-above m A z l in
           laid-strip m f z b l r ∙ ap number (h b (z / A) (z % A) r (div-lt-iff-lt-mul A>0 .1 l) (mod-lt z A>0))
+
+  -- a list of bytes is laid out from the bytes at its places
+  pub laid-bytes : (m : ℕ) (x : List ℕ) → length x ≡ m * A * S → ((e : ℕ) → e < length x → getD x e 0 < 256)
+      → x ≡ laidOut p m (byteAt p x)
+  unfolding byteAt start
+  laid-bytes m x size small = laid-only m (byteAt p x) x size at
+    where
+      at : (z b : ℕ) → z < m * A → b < S → getD x (z * S + b) 0 ≡ number (byteAt p x b (place (z / A) (z % A)))
+      at z b h l = rw (div-add-mod' z A) (sym (number-byte _ (small (z * S + b) (rw size (digits-lt h l)))))
+
+  -- what is stored at a place, by document 01's three cases
+  module _ (a : Place → Byte) (j i : ℕ) where
+    pub coupled-diagonal : i ≡ j % A → coupledAt p a (place j i) ≡ a (place j i)
+    unfolding coupledAt
+    coupled-diagonal e = pick-yes (ℕ-discrete i (j % A)) _ _ e
+
+    pub coupled-upper : i < j % A → coupledAt p a (place j i) ≡ a (place j i) ⊕ a (partnerOf A (place j i))
+    unfolding coupledAt
+    coupled-upper l = pick-no (ℕ-discrete i (j % A)) _ _ (λ e. omega arith) ∙ pick-yes (decLt i (j % A)) _ _ l
+
+    pub coupled-lower : j % A < i
+        → coupledAt p a (place j i) ≡ a (place j i) ⊕ constantOf p i (j % A) ⊗ a (partnerOf A (place j i))
+    unfolding coupledAt
+    coupled-lower l =
+        pick-no (ℕ-discrete i (j % A)) _ _ (λ e. omega arith) ∙ pick-no (decLt i (j % A)) _ _ (λ m. omega arith)
 
   -- what is stored at a place turns on the base symbols there and at its partner
   pub coupled-ext : (a c : Place → Byte) (q : Place) → a q ≡ c q → a (partnerOf A q) ≡ c (partnerOf A q)

@@ -3,3 +3,4 @@ pub mod Decides
 pub mod Accepts
 pub mod Bounds
 pub mod Arrays
+pub mod Rows

@@ -1,6 +1,7 @@
 // The types that all crates above share, in document 01's words, and the profile's constructor that refuses.
 ghost use mathlib.Core.Path.{_≡_};
 ghost use Prim.Native.Nat.{_/_, _%_, _<_};
+ghost use Rattle.document.specs.Refusals.{numberOf, indexOf};
 ghost use Rattle.document.specs.Bytes.{number};
 ghost use Rattle.document.specs.Profile.{Accepted, shapeAccepted, checkedOf};
 ghost use Rattle.document.specs.Places.{place, partnerOf, Within};
@@ -48,6 +49,44 @@ pub enum Refusal {
     Misplaced(usize),
     Stale(usize),
     Ambiguous,
+}
+
+impl Refusal {
+    // Document 01's number.
+    pub fn number(self) -> u8
+        ensures { λ r. ⌜ r ≡ numberOf self ⌝ }
+    {
+        match self {
+            Refusal::Shape => 1,
+            Refusal::Constant => 2,
+            Refusal::StripLength => 3,
+            Refusal::NodeNumber => 4,
+            Refusal::BufferLength => 5,
+            Refusal::BundleForm => 6,
+            Refusal::BundleHead => 7,
+            Refusal::Misplaced(_) => 8,
+            Refusal::Stale(_) => 9,
+            Refusal::Ambiguous => 10,
+        }
+    }
+
+    // The index that comes with it: the strip's for 8 and 9, 0 for the others.
+    pub fn index(self) -> usize
+        ensures { λ r. ⌜ r ≡ indexOf self ⌝ }
+    {
+        match self {
+            Refusal::Misplaced(i) => i,
+            Refusal::Stale(i) => i,
+            Refusal::Shape => 0,
+            Refusal::Constant => 0,
+            Refusal::StripLength => 0,
+            Refusal::NodeNumber => 0,
+            Refusal::BufferLength => 0,
+            Refusal::BundleForm => 0,
+            Refusal::BundleHead => 0,
+            Refusal::Ambiguous => 0,
+        }
+    }
 }
 
 // The answer of every call but the survey.

@@ -1,9 +1,9 @@
--- The laws of `listed`: its length, its entries, equality entry by entry, and a list in two parts.
+-- The laws of `listed`: its length, its entries, equality entry by entry, a list in two parts, and its front.
 use mathlib.Core.Path.{_≡_, refl, sym, ap, ap₂, _∙_}
 use mathlib.Core.List.{List, [], _∷_, _++_}
-use Prim.Native.Nat.{ℕ, zero, suc, _+_, _<_, suc-le-suc}
+use Prim.Native.Nat.{ℕ, zero, suc, _+_, _≤_, _<_, suc-le-suc}
 use native.Mathlib.Nat.{le-of-suc-le-suc, not-suc-le-zero, zero-lt-suc, zero-add, suc-add}
-use lib.ListN.{length, getD}
+use lib.ListN.{length, getD, take}
 use lib.Seq.{ext-getD}
 use Rattle.lists.specs.Listed.{listed}
 
@@ -36,6 +36,14 @@ module _ {X : Type 0} where
       (listed-add m n (λ e. f (suc e))
       ∙ ap (λ (l : List X). listed m (λ e. f (suc e)) ++ l)
       (listed-ext n (λ e. f (suc (m + e))) (λ e. f (suc m + e)) (λ e h. ap f (sym (suc-add m e)))))
+
+  -- the front of a listed list
+  pub listed-take : (m n : ℕ) (f : ℕ → X) → m ≤ n → take m (listed n f) ≡ listed m f
+  unfolding listed
+  listed-take zero n f h = refl
+  listed-take (suc m) zero f h = absurd (not-suc-le-zero h)
+  listed-take (suc m) (suc n) f h =
+      ap (λ (l : List X). f 0 ∷ l) (listed-take m n (λ e. f (suc e)) (le-of-suc-le-suc h))
 
   -- a list is its entries, listed
   pub listed-getD : (d : X) (xs : List X) → listed (length xs) (λ e. getD xs e d) ≡ xs

@@ -1,0 +1,41 @@
+//! The field's kinds: every product and every inverse.
+
+use crate::field;
+use crate::library;
+use crate::random::Random;
+use crate::{Count, Outcome};
+
+pub fn products(_: &mut Random) -> Outcome {
+    let mut cases = 0;
+    for a in 0..=255 {
+        for b in 0..=255 {
+            agree("product", &[a, b], library::product(a, b), field::product(a, b))?;
+            cases += 1;
+        }
+    }
+    Ok(vec![Count { what: "products", cases }])
+}
+
+pub fn inverses(_: &mut Random) -> Outcome {
+    let mut cases = 0;
+    for a in 0..=255 {
+        agree("inverse", &[a], library::inverse(a), field::inverse(a))?;
+        cases += 1;
+    }
+    Ok(vec![Count { what: "inverses", cases }])
+}
+
+/// Document 01's M1, M2 and M3, as they are printed there.
+pub fn samples(_: &mut Random) -> Outcome {
+    agree("sample M1, product", &[128, 128], library::product(128, 128), 19)?;
+    agree("sample M2, inverse", &[2], library::inverse(2), 142)?;
+    agree("sample M3, product", &[3, 3], library::product(3, 3), 5)?;
+    Ok(vec![Count { what: "samples of the field", cases: 3 }])
+}
+
+fn agree(what: &str, of: &[u8], given: u8, expected: u8) -> Result<(), String> {
+    if given == expected {
+        return Ok(());
+    }
+    Err(format!("{what} of {of:?}: the library gives {given}, expected {expected}"))
+}

@@ -1,0 +1,195 @@
+//! Document 01's profile, row code, coupling and encoding, each written down from its sentence there.
+
+use crate::field::{inverse, product, sum};
+
+pub const MOST_NODES: usize = 24;
+pub const MOST_ROWS: usize = 4;
+pub const MOST_STRIP_BYTES: usize = 512;
+
+/// The refusals by number. 0 is success.
+#[derive(Clone, Copy, PartialEq, Debug)]
+pub enum Refusal {
+    NodesOrRows = 1,
+    Constant = 2,
+    StripLength = 3,
+    BufferLength = 5,
+}
+
+/// The numbers of a profile as a caller gives them, accepted or not.
+#[derive(Clone, Copy, PartialEq, Debug)]
+pub struct Profile {
+    pub n: usize,
+    pub k: usize,
+    pub rows: usize,
+    pub t: usize,
+    pub s: usize,
+}
+
+/// A place in an array: node first, then row.
+#[derive(Clone, Copy, PartialEq, Debug)]
+pub struct Place {
+    pub node: usize,
+    pub row: usize,
+}
+
+/// "Accepted: k at least 1; n above k; 2 <= A <= 4; A at most n-k; A divides n; n at most 24".
+pub fn nodes_and_rows_accepted(n: usize, k: usize, rows: usize) -> bool {
+    k >= 1 && n > k && (2..=MOST_ROWS).contains(&rows) && rows <= n - k && n % rows == 0 && n <= MOST_NODES
+}
+
+/// Every accepted (n, k, A).
+pub fn all_accepted() -> Vec<(usize, usize, usize)> {
+    let mut accepted = Vec::new();
+    for n in 0..=MOST_NODES {
+        for k in 0..=n {
+            let rows = (0..=MOST_ROWS).filter(|&rows| nodes_and_rows_accepted(n, k, rows));
+            accepted.extend(rows.map(|rows| (n, k, rows)));
+        }
+    }
+    accepted
+}
+
+impl Profile {
+    /// Refusals 1, 2 and 3, the lowest number first.
+    pub fn refusal(&self) -> Option<Refusal> {
+        if !nodes_and_rows_accepted(self.n, self.k, self.rows) {
+            Some(Refusal::NodesOrRows)
+        } else if !(2..=255).contains(&self.t) {
+            Some(Refusal::Constant)
+        } else if self.s == 0 || self.s > MOST_STRIP_BYTES {
+            Some(Refusal::StripLength)
+        } else {
+            None
+        }
+    }
+
+    /// kAS. This and all that follow are for numbers that are accepted, or small.
+    pub fn data_length(&self) -> usize {
+        self.k * self.rows * self.s
+    }
+
+    /// nAS.
+    pub fn array_length(&self) -> usize {
+        self.n * self.rows * self.s
+    }
+
+    /// "In memory, strip (row i, node j) starts at (jA+i)S".
+    pub fn strip_start(&self, place: Place) -> usize {
+        (place.node * self.rows + place.row) * self.s
+    }
+
+    /// The place that the byte at this position of an array belongs to.
+    pub fn place_of_byte(&self, position: usize) -> Place {
+        let strip = position / self.s;
+        Place { node: strip / self.rows, row: strip % self.rows }
+    }
+
+    fn local_column(&self, place: Place) -> usize {
+        place.node % self.rows
+    }
+
+    /// "The partner of row i, node j is row l, node gA+i."
+    pub fn partner(&self, place: Place) -> Place {
+        let group = place.node / self.rows;
+        Place { node: group * self.rows + place.row, row: self.local_column(place) }
+    }
+
+    fn places(&self) -> Vec<Place> {
+        (0..self.n).flat_map(|node| (0..self.rows).map(move |row| Place { node, row })).collect()
+    }
+
+    /// The base symbols of one row at one byte offset, of the nodes 0..n-1.
+    pub fn base_row(&self, base: &[u8], row: usize, offset: usize) -> Vec<u8> {
+        (0..self.n).map(|node| base[self.strip_start(Place { node, row }) + offset]).collect()
+    }
+}
+
+/// Lagrange's formula: what to multiply the values at `points` with, so that the sum is the value at the
+/// point `at` of the polynomial of degree below the number of points. The points are different.
+pub fn lagrange(points: &[u8], at: u8) -> Vec<u8> {
+    let weight = |own: usize| {
+        let mut above = 1;
+        let mut below = 1;
+        for (other, &point) in points.iter().enumerate() {
+            if other != own {
+                above = product(above, sum(at, point));
+                below = product(below, sum(points[own], point));
+            }
+        }
+        product(above, inverse(below))
+    };
+    (0..points.len()).map(weight).collect()
+}
+
+/// The sum of the products of values and weights.
+pub fn weighted(values: &[u8], weights: &[u8]) -> u8 {
+    values.iter().zip(weights).fold(0, |total, (&value, &weight)| sum(total, product(value, weight)))
+}
+
+/// "Node j has the point j, the field element with that number."
+pub fn point(node: usize) -> u8 {
+    node as u8
+}
+
+/// All base symbols, in the array's order: the data, and past them the values of each row's polynomial.
+pub fn base_of(profile: &Profile, data: &[u8]) -> Vec<u8> {
+    let mut base = data.to_vec();
+    let data_points: Vec<u8> = (0..profile.k).map(point).collect();
+    for node in profile.k..profile.n {
+        let weights = lagrange(&data_points, point(node));
+        for row in 0..profile.rows {
+            base.extend((0..profile.s).map(|offset| {
+                let free = (0..profile.k).map(|node| data[profile.strip_start(Place { node, row }) + offset]);
+                weighted(&free.collect::<Vec<u8>>(), &weights)
+            }));
+        }
+    }
+    base
+}
+
+/// The stored strips of these base symbols.
+pub fn couple(profile: &Profile, base: &[u8]) -> Vec<u8> {
+    let mut stored = vec![0; profile.array_length()];
+    for place in profile.places() {
+        let (own, other) = (profile.strip_start(place), profile.strip_start(profile.partner(place)));
+        let column = profile.local_column(place);
+        for offset in 0..profile.s {
+            let (a, partner) = (base[own + offset], base[other + offset]);
+            stored[own + offset] = if place.row == column {
+                a
+            } else if place.row < column {
+                sum(a, partner)
+            } else {
+                sum(a, product(profile.t as u8, partner))
+            };
+        }
+    }
+    stored
+}
+
+/// The base symbols of these stored strips, each pair solved from its two strips: with u the base symbol where
+/// row < column and v its partner, the strips are u + v and v + t·u, so that their sum is (1 + t)·u.
+pub fn decouple(profile: &Profile, stored: &[u8]) -> Vec<u8> {
+    let mut base = stored.to_vec();
+    let scale = inverse(sum(1, profile.t as u8));
+    for place in profile.places().into_iter().filter(|&place| place.row < profile.local_column(place)) {
+        let (own, other) = (profile.strip_start(place), profile.strip_start(profile.partner(place)));
+        for offset in 0..profile.s {
+            let (x, y) = (stored[own + offset], stored[other + offset]);
+            base[own + offset] = product(scale, sum(x, y));
+            base[other + offset] = sum(x, base[own + offset]);
+        }
+    }
+    base
+}
+
+/// What encoding answers: the array that the data give, or the refusal with the lowest number that applies.
+pub fn encode(profile: &Profile, data: &[u8], array_length: usize) -> Result<Vec<u8>, Refusal> {
+    if let Some(refusal) = profile.refusal() {
+        return Err(refusal);
+    }
+    if data.len() != profile.data_length() || array_length != profile.array_length() {
+        return Err(Refusal::BufferLength);
+    }
+    Ok(couple(profile, &base_of(profile, data)))
+}

@@ -1,0 +1,105 @@
+//! The library under test: its C functions, and safe calls that lend buffers with guard bytes around them.
+
+use crate::code::Profile;
+use crate::random::Random;
+
+extern "C" {
+    fn whaupfield_encode(
+        n: usize,
+        k: usize,
+        a: usize,
+        t: usize,
+        s: usize,
+        data: *const u8,
+        data_len: usize,
+        array: *mut u8,
+        array_len: usize,
+    ) -> u64;
+    fn whaupfield_product(a: u8, b: u8) -> u8;
+    fn whaupfield_inverse(a: u8) -> u8;
+}
+
+/// What a call answers: 0 or the refusal's number in the low byte, the value above it.
+#[derive(Clone, Copy, PartialEq, Debug)]
+pub struct Answer {
+    pub number: u8,
+    pub value: u64,
+}
+
+impl std::fmt::Display for Answer {
+    fn fmt(&self, to: &mut std::fmt::Formatter) -> std::fmt::Result {
+        write!(to, "{} with {}", self.number, self.value)
+    }
+}
+
+impl Answer {
+    fn from_word(word: u64) -> Answer {
+        Answer { number: word as u8, value: word >> 8 }
+    }
+}
+
+/// The guard bytes on each side of a lent buffer: more than a strip.
+const GUARD: usize = 640;
+
+/// A buffer to lend: it lies inside a larger allocation of random bytes, at any alignment.
+pub struct Lent {
+    room: Vec<u8>,
+    before: Vec<u8>,
+    start: usize,
+    length: usize,
+}
+
+impl Lent {
+    pub fn new(bytes: &[u8], random: &mut Random) -> Lent {
+        let start = GUARD + random.between(0, 15);
+        let mut room = random.bytes(start);
+        room.extend_from_slice(bytes);
+        room.extend(random.bytes(GUARD));
+        Lent { before: room.clone(), room, start, length: bytes.len() }
+    }
+
+    pub fn bytes(&self) -> &[u8] {
+        &self.room[self.start..self.start + self.length]
+    }
+
+    /// Nothing, or what to say of the first byte changed in the buffer or around it.
+    pub fn change(&self) -> Option<String> {
+        self.first_change(0..self.room.len())
+    }
+
+    /// The same of the bytes around the buffer alone.
+    pub fn change_around(&self) -> Option<String> {
+        let past = self.start + self.length..self.room.len();
+        self.first_change(0..self.start).or_else(|| self.first_change(past))
+    }
+
+    fn first_change(&self, range: std::ops::Range<usize>) -> Option<String> {
+        if self.room[range.clone()] == self.before[range.clone()] {
+            return None;
+        }
+        let at = range.into_iter().find(|&at| self.room[at] != self.before[at])?;
+        let position = at as isize - self.start as isize;
+        Some(format!("its byte {position} of {} was {:02x} and is {:02x}", self.length, self.before[at], self.room[at]))
+    }
+
+    /// Also for a buffer that is lent for reading alone, so that a write to it is seen.
+    fn pointer(&mut self) -> *mut u8 {
+        self.room[self.start..].as_mut_ptr()
+    }
+}
+
+pub fn encode(profile: &Profile, data: &mut Lent, array: &mut Lent) -> Answer {
+    let Profile { n, k, rows, t, s } = *profile;
+    // Both pointers are to live bytes of the lengths given, in allocations apart.
+    let word =
+        unsafe { whaupfield_encode(n, k, rows, t, s, data.pointer(), data.length, array.pointer(), array.length) };
+    Answer::from_word(word)
+}
+
+pub fn product(a: u8, b: u8) -> u8 {
+    unsafe { whaupfield_product(a, b) }
+}
+
+pub fn inverse(a: u8) -> u8 {
+    unsafe { whaupfield_inverse(a) }
+}

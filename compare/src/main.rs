@@ -1,0 +1,68 @@
+//! Compares the array store's exported C functions with document 01, read here a second time. See README.md.
+//!
+//! To add a call: its declaration and wrapper in library.rs, its definition in code.rs, its kinds in a file of
+//! their own, and a line in KINDS.
+
+mod arithmetic;
+mod code;
+mod encodings;
+mod field;
+mod library;
+mod random;
+
+use random::Random;
+
+/// How many cases of one sort agreed.
+pub struct Count {
+    pub what: &'static str,
+    pub cases: usize,
+}
+
+/// The counts, or the first disagreement with its whole case on one line.
+pub type Outcome = Result<Vec<Count>, String>;
+
+/// Each kind has a generator of its own, so that a new kind changes no other's cases; so new ones go last.
+const KINDS: [fn(&mut Random) -> Outcome; 6] = [
+    arithmetic::products,
+    arithmetic::inverses,
+    arithmetic::samples,
+    encodings::samples,
+    encodings::row_codes,
+    encodings::encodings,
+];
+
+const SEED: u64 = 1;
+
+pub fn hex(bytes: &[u8]) -> String {
+    bytes.iter().map(|byte| format!("{byte:02x}")).collect()
+}
+
+fn run(seed: u64) -> Result<usize, String> {
+    let mut cases = 0;
+    for (index, kind) in KINDS.iter().enumerate() {
+        let own_seed = Random::new(seed).number().wrapping_add(index as u64);
+        for count in kind(&mut Random::new(own_seed))? {
+            println!("{} {}", count.what, count.cases);
+            cases += count.cases;
+        }
+    }
+    Ok(cases)
+}
+
+fn main() {
+    let seed = match std::env::args().nth(1).map(|word| word.parse()) {
+        None => SEED,
+        Some(Ok(seed)) => seed,
+        Some(Err(_)) => {
+            eprintln!("compare: the seed must be a decimal number below 2^64");
+            std::process::exit(2);
+        }
+    };
+    match run(seed) {
+        Ok(cases) => println!("compare: all {cases} cases agree"),
+        Err(disagreement) => {
+            println!("compare: seed {seed}: {disagreement}");
+            std::process::exit(1);
+        }
+    }
+}

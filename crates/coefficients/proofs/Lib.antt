@@ -1,0 +1,3 @@
+pub mod Products
+pub mod Lists
+pub mod Lagrange

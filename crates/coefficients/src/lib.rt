@@ -1,0 +1,83 @@
+// The weights of Lagrange's formula, for any node from any different nodes: the product of all differences, divided by
+// the node's own difference and by its denominator.
+ghost use mathlib.Core.Path.{_≡_};
+ghost use Prim.Native.Nat.{_≤_, _<_};
+ghost use lib.ListN.{length};
+ghost use Rattle.lists.specs.Listed.{listed};
+ghost use Rattle.coefficients.specs.Weights.{Different, Outside, weightsOf};
+ghost use Rattle.coefficients.specs.Weights.{differencesOf, denominatorOf, denominatorsOf, Divisors, weightsFrom};
+
+// The sum of x and each node.
+fn differences(x: u8, nodes: &[u8], out: &mut [u8])
+    requires { ⌜ length (now out) ≡ length (now nodes) ⌝ }
+    ensures { λ _. ⌜ now (out .exit) ≡ differencesOf (now (nodes .entry)) x ⌝ }
+{
+    let mut i = 0;
+    while i < nodes.len() {
+        out[i] = x ^ nodes[i];
+        i += 1;
+    }
+}
+
+// The denominator of node q: its own difference, which is 0, counts as 1.
+fn denominator(nodes: &[u8], q: usize) -> u8
+    requires { ⌜ length (now nodes) ≤ 24 ⌝ }
+    requires { ⌜ q < length (now nodes) ⌝ }
+    ensures { λ r. ⌜ r ≡ denominatorOf (now (nodes .entry)) q ⌝ }
+{
+    let k = nodes.len();
+    let mut d = [0u8; 24];
+    differences(nodes[q], nodes, &mut d[..k]);
+    d[q] = 1;
+    gf256::product_of(&d[..k])
+}
+
+// The denominators of the weights: once a call, whatever the number of nodes wanted.
+pub fn denominators(nodes: &[u8], out: &mut [u8])
+    requires { ⌜ Different (now nodes) ⌝ }
+    requires { ⌜ length (now out) ≡ length (now nodes) ⌝ }
+    ensures { λ _. ⌜ now (out .exit) ≡ denominatorsOf (now (nodes .entry)) ⌝ }
+{
+    let mut q = 0;
+    while q < nodes.len() {
+        let d = denominator(nodes, q);
+        out[q] = d;
+        q += 1;
+    }
+}
+
+// The same value everywhere.
+fn fill(out: &mut [u8], value: u8)
+    ensures { λ _. ⌜ now (out .exit) ≡ listed (length (now (out .entry))) (λ i. value) ⌝ }
+{
+    let mut i = 0;
+    while i < out.len() {
+        out[i] = value;
+        i += 1;
+    }
+}
+
+// The weights, from the differences and the denominators: the product of all differences is taken once.
+fn quotients(differences: &[u8], denominators: &[u8], out: &mut [u8])
+    requires { ⌜ Divisors (now differences) (now denominators) ⌝ }
+    requires { ⌜ length (now out) ≡ length (now differences) ⌝ }
+    ensures { λ _. ⌜ now (out .exit) ≡ weightsFrom (now (differences .entry)) (now (denominators .entry)) ⌝ }
+{
+    fill(out, gf256::product_of(differences));
+    gf256::divide_all(out, differences);
+    gf256::divide_all(out, denominators);
+}
+
+// The weights of the nodes at the node `at`, which is none of them.
+pub fn weights(nodes: &[u8], denominators: &[u8], at: u8, out: &mut [u8])
+    requires { ⌜ Different (now nodes) ⌝ }
+    requires { ⌜ Outside (now nodes) at ⌝ }
+    requires { ⌜ now denominators ≡ denominatorsOf (now nodes) ⌝ }
+    requires { ⌜ length (now out) ≡ length (now nodes) ⌝ }
+    ensures { λ _. ⌜ now (out .exit) ≡ weightsOf (now (nodes .entry)) at ⌝ }
+{
+    let k = nodes.len();
+    let mut d = [0u8; 24];
+    differences(at, nodes, &mut d[..k]);
+    quotients(&d[..k], denominators, out);
+}

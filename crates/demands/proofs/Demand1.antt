@@ -1,0 +1,174 @@
+-- Demand 1: a call that tries its tests in order refuses exactly as the table says; encoding does.
+use mathlib.Core.Path.{_≡_, refl, sym, _∙_}
+use mathlib.Core.Logic.{_⊎_, inl, inr}
+use mathlib.Core.Bool.{Bool, true, false, false≢true}
+use mathlib.Core.List.{List, [], _∷_, _++_}
+use Prim.Native.Nat.{ℕ, _*_, _≤_, _<_}
+use native.Mathlib.Decide.{ℕ-discrete, decLt}
+use native.Mathlib.Omega.{arith}
+use lib.ListN.{length}
+use Rattle.document.specs.declared.Numbers.{Numbers}
+use Rattle.document.specs.declared.Refusal.{Refusal}
+use Rattle.document.specs.declared.Refusal.the-variants.{Shape, Constant, StripLength}
+use Rattle.document.specs.declared.Answer.{Answer}
+use Rattle.document.specs.declared.Answer.the-variants.{Done, Refused}
+use Rattle.document.specs.Refusals.{Test, tried, Decides}
+use Rattle.document.specs.Profile.{ShapeAccepted, Accepted, profileTests, profileOf}
+use Rattle.document.specs.Encoding.{encoded, encodeTests, encodeOf}
+use Rattle.document.proofs.Decides.{decides-eq, decides-both, decides-not, decides-same}
+use Rattle.document.proofs.Accepts.{decides-shape, decides-constant, decides-strip}
+use Rattle.demands.specs.Refusals.{
+  Sentence,
+  FirstOf,
+  here,
+  later,
+  RefusesExactly,
+  Decided,
+  none,
+  line,
+  profileSentences,
+  encodeSentences,
+}
+
+-- done is not refused
+done-refused : (v : ℕ) (r : Refusal) → Done v ≡ Refused r → ⊥
+done-refused v r e = let z : _≡_ {A = ℕ} 0 1 = cc in omega arith
+
+same-refusal : (q r : Refusal) → Refused q ≡ Refused r → q ≡ r
+same-refusal q r e = cc
+
+-- an empty table has no first refusal
+first-none : (r : Refusal) → FirstOf [] r → ⊥
+first-none r = elim [ ]
+
+-- the first refusal of a table whose first condition holds
+first-here : {s : Sentence} {table : List Sentence} → s .says → (r : Refusal) → FirstOf (s ∷ table) r → r ≡ s .refusal
+first-here h r (here _) = refl
+first-here h r (later n f) = absurd (n h)
+
+-- where the first condition does not hold, it is that of the rest
+first-later : {s : Sentence} {table : List Sentence} → (s .says → ⊥) → (r : Refusal) → FirstOf (s ∷ table) r
+    → FirstOf table r
+first-later n r (here h) = absurd (n h)
+first-later n r (later _ f) = f
+
+-- what is not within 1..512 is 0 or above 512
+outside : (S : ℕ) → ((1 ≤ S) × (S ≤ 512) → ⊥) → (S ≡ 0) ⊎ (512 < S)
+outside S n = go (ℕ-discrete S 0) (decLt 512 S)
+  where
+    go : Dec (S ≡ 0) → Dec (512 < S) → (S ≡ 0) ⊎ (512 < S)
+    go (yes e) m = inl e
+    go (no z) (yes l) = inr l
+    go (no z) (no m) = absurd (n (omega arith, omega arith))
+
+inside : (S : ℕ) → (S ≡ 0) ⊎ (512 < S) → (1 ≤ S) × (S ≤ 512) → ⊥
+inside S (inl e) h = omega arith
+inside S (inr l) h = omega arith
+
+-- what is decided and not refuted holds
+decided : {P : Type 0} (b : Bool) → Decides b P → ((P → ⊥) → ⊥) → P
+decided true d n = d .0 refl
+decided false d n = absurd (n (λ h. false≢true (d .1 h)))
+
+module _ {X : Type 0} (before : X) where
+  -- an empty table, and a call that is done
+  exactly-none : (v : ℕ) (after : X) → RefusesExactly [] before (Done v, after)
+  exactly-none v after = record {
+    given = λ r. ((λ e. absurd (done-refused v r e)), λ f. absurd (first-none r f));
+    kept = λ r e. absurd (done-refused v r e);
+  }
+
+  -- a first line that holds, and a call refused by it
+  exactly-here : (s : Sentence) (table : List Sentence) → s .says
+      → RefusesExactly (s ∷ table) before (Refused (s .refusal), before)
+  exactly-here s table h = record {
+    given = λ r. ((λ e. rw (← same-refusal (s .refusal) r e) (here h)), λ f. rw (first-here h r f));
+    kept = λ r e. refl;
+  }
+
+  -- a first line that does not hold is as if it were not there
+  exactly-later : (s : Sentence) (table : List Sentence) (outcome : Answer × X) → (s .says → ⊥)
+      → RefusesExactly table before outcome → RefusesExactly (s ∷ table) before outcome
+  exactly-later s table outcome n R = record {
+    given = λ r. ((λ e. later n (R .given r .0 e)), λ f. R .given r .1 (first-later n r f));
+    kept = R .kept;
+  }
+
+  module _ (v : ℕ) (after : X) where
+    -- the outcome of a call that tries its tests in order
+    abbrev outcomeOf : List Test → Answer × X
+    outcomeOf tests = tried tests (λ r. (Refused r, before)) (Done v, after)
+
+    -- Demand 1, once for all calls.
+    pub tried-exactly : {tests : List Test} {table : List Sentence} → Decided tests table
+        → RefusesExactly table before (tried tests (λ r. (Refused r, before)) (Done v, after))
+    unfolding tried
+    tried-exactly none = exactly-none v after
+    tried-exactly (line {test} {s} {tests} {table} same decides rest) = go (test .holds) decides (tried-exactly rest)
+      where
+        go : (b : Bool) → Decides b (s .says) → RefusesExactly table before (outcomeOf tests)
+            → RefusesExactly (s ∷ table) before (outcomeOf (record { refusal = test .refusal; holds = b } ∷ tests))
+        go true d R = rw same (exactly-here s table (d .0 refl))
+        go false d R = exactly-later s table (outcomeOf tests) (λ h. false≢true (d .1 h)) R
+
+    -- A call that is done tried all its tests in vain.
+    pub tried-done : (tests : List Test) (w : ℕ) → outcomeOf tests .0 ≡ Done w → outcomeOf tests ≡ (Done v, after)
+    unfolding tried
+    tried-done [] w e = refl
+    tried-done (test ∷ tests) w e = go (test .holds) e (tried-done tests w)
+      where
+        go : (b : Bool) → outcomeOf (record { refusal = test .refusal; holds = b } ∷ tests) .0 ≡ Done w
+            → (outcomeOf tests .0 ≡ Done w → outcomeOf tests ≡ (Done v, after))
+            → outcomeOf (record { refusal = test .refusal; holds = b } ∷ tests) ≡ (Done v, after)
+        go true e h = absurd (done-refused w (test .refusal) (sym e))
+        go false e h = h e
+
+  -- A call that tries refusals 1, 2 and 3 first and is done has an accepted profile.
+  pub done-accepted : (p : Numbers) (table : List Sentence) (outcome : Answer × X) (v : ℕ)
+      → RefusesExactly (profileSentences p ++ table) before outcome → outcome .0 ≡ Done v → Accepted (profileOf p)
+  unfolding profileSentences
+  done-accepted p table outcome v R e = record {
+    shape = shape;
+    above-one = constant .0;
+    byte = constant .1;
+    some-bytes = strip .0;
+    short = strip .1;
+  }
+    where
+      unrefused : (r : Refusal) → FirstOf (profileSentences p ++ table) r → ⊥
+      unrefused r f = done-refused v r (sym e ∙ R .given r .1 f)
+
+      shape : ShapeAccepted (p .n) (p .k) (p .a)
+      shape = decided _ (decides-shape (p .n) (p .k) (p .a)) (λ n. unrefused Shape (here n))
+
+      constant : (2 ≤ p .t) × (p .t ≤ 255)
+      constant = decided _ (decides-constant (p .t)) (λ n. unrefused Constant (later (λ m. m shape) (here n)))
+
+      strip : (1 ≤ p .s) × (p .s ≤ 512)
+      strip =
+          decided _ (decides-strip (p .s))
+          (λ n. unrefused StripLength (later (λ m. m shape) (later (λ m. m constant) (here (outside (p .s) n)))))
+
+-- The tests of refusals 1, 2 and 3, before any others, decide their sentences.
+pub profile-decided : (p : Numbers) {tests : List Test} {table : List Sentence} → Decided tests table
+    → Decided (profileTests p ++ tests) (profileSentences p ++ table)
+unfolding profileTests profileSentences
+profile-decided p rest =
+    line refl (decides-not _ (decides-shape (p .n) (p .k) (p .a)))
+    (line refl (decides-not _ (decides-constant (p .t)))
+    (line refl (decides-same _ (decides-not _ (decides-strip (p .s))) (outside (p .s)) (inside (p .s))) rest))
+
+-- Each test of encoding decides its sentence of the table.
+pub encode-decided : (p : Numbers) (d x : List ℕ) → Decided (encodeTests p d x) (encodeSentences p d x)
+unfolding encodeTests encodeSentences
+encode-decided p d x =
+    profile-decided p
+    (line refl
+    (decides-not _
+    (decides-both _ _ (decides-eq (length d) (p .k * p .a * p .s)) (decides-eq (length x) (p .n * p .a * p .s))))
+    none)
+
+-- Encoding refuses exactly as the table says, and a refusal leaves the array as it was.
+pub demand-1-encode : (p : Numbers) (d x : List ℕ) → RefusesExactly (encodeSentences p d x) x (encodeOf p d x)
+unfolding encodeOf
+demand-1-encode p d x = tried-exactly x 0 (encoded (profileOf p) d) (encode-decided p d x)

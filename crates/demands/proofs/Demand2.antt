@@ -1,0 +1,126 @@
+-- Demand 2, first sentence: the encoded array is what document 01 defines, nothing else is, and encoding writes it.
+use mathlib.Core.Path.{_≡_, refl, sym, _∙_}
+use mathlib.Core.List.{List}
+use Prim.Native.Nat.{ℕ, _+_, _*_, _/_, _%_, _<_}
+use native.Mathlib.Decide.{ℕ-discrete, decLt}
+use native.Mathlib.Omega.{arith}
+use Rattle.algebra.specs.Polynomial.{eval}
+use Rattle.algebra.specs.RowCode.{Choice, Codeword}
+use Rattle.algebra.proofs.RowCode.{determined}
+use Rattle.document.specs.declared.Numbers.{Numbers}
+use Rattle.document.specs.declared.Profile.{Profile}
+use Rattle.document.specs.declared.Place.{Place}
+use Rattle.document.specs.declared.Answer.the-variants.{Done}
+use Rattle.document.specs.Profile.{Accepted, profileOf}
+use Rattle.document.specs.Places.{place, partnerOf, Within}
+use Rattle.document.specs.Bytes.{bytes, Byte, byte}
+use Rattle.document.specs.Encoding.{
+  byteAt,
+  baseAt,
+  constantOf,
+  coupledAt,
+  laidOut,
+  encoded,
+  encodeTests,
+  encodeOf,
+}
+use Rattle.document.proofs.Bytes.{points-distinct}
+use Rattle.document.proofs.Bounds.{partner-within}
+use Rattle.document.proofs.Rows.{row-word, row-data}
+use Rattle.document.proofs.Arrays.{
+  laid-length,
+  laid-small,
+  laid-byte,
+  laid-bytes,
+  laid-ext,
+  coupled-diagonal,
+  coupled-upper,
+  coupled-lower,
+  coupled-ext,
+}
+use Rattle.demands.specs.Refusals.{encodeSentences}
+use Rattle.demands.specs.Encoding.{DocumentArray}
+use Rattle.demands.proofs.Demand1.{tried-done, done-accepted, demand-1-encode}
+
+module _ (p : Profile) where
+  open Profile p using (n, k, a as A, s as S)
+
+  -- byte b of what is stored at a place for the data d
+  abbrev storedAt : List ℕ → ℕ → Place → Byte
+  storedAt d b = coupledAt p (baseAt p d b)
+
+  module _ (acc : Accepted p) (d : List ℕ) where
+    -- The encoded array is the array that document 01 defines.
+    pub encoded-is : DocumentArray p d (encoded p d)
+    unfolding encoded constantOf
+    encoded-is = record {
+      base = baseAt p d;
+      coefficients = λ b i. row-word p d b i .poly .coefficients;
+      size = laid-length p n (storedAt d);
+      small = laid-small p n (storedAt d);
+      degree = λ b i l r. row-word p d b i .poly .degree;
+      values = λ b i j l r h. row-word p d b i .at j h ∙ row-word p d b i .poly .value (byte j);
+      given = λ b i j l r h. row-data p d b i acc j h;
+      diagonal = λ b i j l r h e. stored b i j l r h ∙ coupled-diagonal p (baseAt p d b) j i e;
+      upper = λ b i j l r h e. stored b i j l r h ∙ coupled-upper p (baseAt p d b) j i e;
+      lower = λ b i j l r h e. stored b i j l r h ∙ coupled-lower p (baseAt p d b) j i e;
+    }
+      where
+        stored : (b i j : ℕ) → b < S → i < A → j < n
+            → byteAt p (laidOut p n (storedAt d)) b (place j i) ≡ storedAt d b (place j i)
+        stored b i j l r h = laid-byte p n (storedAt d) b j i l h r
+
+    module _ (x : List ℕ) (D : DocumentArray p d x) where
+      -- the data fix the base symbols
+      base-only : (b i j : ℕ) → b < S → i < A → j < n → D .base b (place j i) ≡ baseAt p d b (place j i)
+      base-only b i j l r =
+          determined bytes n byte (points-distinct n (omega (arith, acc .shape .few-nodes))) k (λ q. q) data-nodes
+          word (row-word p d b i) (λ q m. D .given b i q l r m ∙ sym (row-data p d b i acc q m)) j
+        where
+          data-nodes : Choice k n (λ q. q)
+          data-nodes = record { below = λ q m. omega (arith, acc .shape .some-parity); apart = λ q m u v. omega arith }
+
+          word : Codeword bytes n byte k (λ j. D .base b (place j i))
+          word = record {
+            polynomial = eval bytes (D .coefficients b i);
+            poly = record { coefficients = D .coefficients b i; degree = D .degree b i l r; value = λ z. refl };
+            at = λ j h. D .values b i j l r h;
+          }
+
+      -- what x holds at a place is its base symbols coupled
+      holds : (b i j : ℕ) → b < S → i < A → j < n → byteAt p x b (place j i) ≡ coupledAt p (D .base b) (place j i)
+      unfolding constantOf
+      holds b i j l r h = go (ℕ-discrete i (j % A)) (decLt i (j % A))
+        where
+          go : Dec (i ≡ j % A) → Dec (i < j % A) → byteAt p x b (place j i) ≡ coupledAt p (D .base b) (place j i)
+          go (yes e) m = D .diagonal b i j l r h e ∙ sym (coupled-diagonal p (D .base b) j i e)
+          go (no e) (yes m) = D .upper b i j l r h m ∙ sym (coupled-upper p (D .base b) j i m)
+          go (no e) (no m) =
+              let above : j % A < i = omega arith in
+              D .lower b i j l r h above ∙ sym (coupled-lower p (D .base b) j i above)
+
+      -- No other list is.
+      pub encoded-only : x ≡ encoded p d
+      unfolding encoded
+      encoded-only = laid-bytes p n x (D .size) (D .small) ∙ laid-ext p n (byteAt p x) (storedAt d) same
+        where
+          same : (b j i : ℕ) → b < S → j < n → i < A → byteAt p x b (place j i) ≡ storedAt d b (place j i)
+          same b j i l h r =
+              holds b i j l r h
+              ∙ coupled-ext p (D .base b) (baseAt p d b) (place j i) (base-only b i j l r h)
+              (base-only b (j % A) (j / A * A + i) l (partner .row) (partner .node))
+            where
+              partner : Within p (partnerOf A (place j i))
+              partner = partner-within p acc (place j i) (record { node = h; row = r })
+
+-- 'Encoding writes the array that document 01 defines.' 'On success the answer is 0, with .. 0 otherwise.'
+pub demand-2-encode : (p : Numbers) (d x : List ℕ) (v : ℕ) → encodeOf p d x .0 ≡ Done v
+    → (v ≡ 0) × DocumentArray (profileOf p) d (encodeOf p d x .1)
+unfolding encodeOf encodeSentences
+demand-2-encode p d x v e = (cc done, rw done (encoded-is (profileOf p) accepted d))
+  where
+    done : encodeOf p d x ≡ (Done 0, encoded (profileOf p) d)
+    done = tried-done x 0 (encoded (profileOf p) d) (encodeTests p d x) v e
+
+    accepted : Accepted (profileOf p)
+    accepted = done-accepted x p _ (encodeOf p d x) v (demand-1-encode p d x) e

@@ -1,0 +1,51 @@
+-- Demand 2, first sentence: 'Encoding writes the array that document 01 defines.'
+--
+-- DocumentArray p d x : x is the array that document 01 defines for the data d, in the profile p
+--
+-- In it b is a byte offset of a strip, i a row, j a node, j % A its local column l. The words it uses:
+-- byteAt p x b q : byte b of the strip at the place q of the array or data x
+-- place j i      : the place of node j, row i
+-- partnerOf A q  : the partner of the place q
+-- byte j         : the field element with the number j
+-- eval bytes c z : the value at z of the polynomial with the coefficients c, constant term first
+use mathlib.Core.Path.{_≡_}
+use mathlib.Core.List.{List}
+use Prim.Native.Nat.{ℕ, _*_, _%_, _≤_, _<_}
+use lib.ListN.{length, getD}
+use Rattle.algebra.specs.Field.{Field}
+use Rattle.algebra.specs.Polynomial.{eval}
+use Rattle.document.specs.declared.Profile.{Profile}
+use Rattle.document.specs.declared.Place.{Place}
+use Rattle.document.specs.Places.{place, partnerOf}
+use Rattle.document.specs.Bytes.{bytes, Byte, byte}
+use Rattle.document.specs.Encoding.{byteAt}
+
+infixl 65 _⊕_
+infixl 70 _⊗_
+open Field bytes using (add as _⊕_, mul as _⊗_)
+
+module _ (p : Profile) (d x : List ℕ) where
+  open Profile p using (n, k, a as A, t, s as S)
+
+  -- 'all rules below hold at each byte offset of a strip on its own'
+  pub record DocumentArray : Type 0 where
+    -- The base symbols a(i,j) at each byte offset.
+    pub base : ℕ → Place → Byte
+    -- The coefficients of one polynomial for each byte offset and row.
+    pub coefficients : ℕ → ℕ → List Byte
+    -- 'A stored array is any nAS bytes.'
+    pub size : length x ≡ n * A * S
+    pub small : (e : ℕ) → e < length x → getD x e 0 < 256
+    -- 'One row of base symbols .. is the list of values, at the points 0..n-1, of a polynomial of degree below k.'
+    pub degree : (b i : ℕ) → b < S → i < A → length (coefficients b i) ≤ k
+    pub values : (b i j : ℕ) → b < S → i < A → j < n → base b (place j i) ≡ eval bytes (coefficients b i) (byte j)
+    -- 'The data are the symbols with j < k, free.'
+    pub given : (b i j : ℕ) → b < S → i < A → j < k → base b (place j i) ≡ byteAt p d b (place j i)
+    -- 'The stored strip x(i,j) is: a(i,j) where i = l;'
+    pub diagonal : (b i j : ℕ) → b < S → i < A → j < n → i ≡ j % A → byteAt p x b (place j i) ≡ base b (place j i)
+    -- 'a(i,j) + a(partner) where i < l;'
+    pub upper : (b i j : ℕ) → b < S → i < A → j < n → i < j % A
+        → byteAt p x b (place j i) ≡ base b (place j i) ⊕ base b (partnerOf A (place j i))
+    -- 'a(i,j) + t·a(partner) where i > l.'
+    pub lower : (b i j : ℕ) → b < S → i < A → j < n → j % A < i
+        → byteAt p x b (place j i) ≡ base b (place j i) ⊕ byte t ⊗ base b (partnerOf A (place j i))

@@ -1,0 +1,62 @@
+-- Demand 1: 'Each refusal is one of the ten in document 01 .., given exactly when its condition is the first that holds
+-- in the order they are tried .., and it changes no byte that was lent.'
+--
+-- Sentence                            : a refusal, and what document 01's table says of it, for one call
+-- FirstOf table r                     : r is the first refusal in the table whose condition holds
+-- RefusesExactly table before outcome : a call with this outcome, lent the bytes `before`, refuses as the table says
+-- Decided tests table                 : the tests that a call makes decide the sentences of the table, line by line
+-- profileSentences p                  : the lines for a profile's numbers
+-- encodeSentences p d x               : the table for encoding the data d into x
+use mathlib.Core.Path.{_≡_}
+use mathlib.Core.Logic.{_↔_, _⊎_}
+use mathlib.Core.List.{List, [], _∷_, _++_}
+use Prim.Native.Nat.{ℕ, _*_, _≤_, _<_}
+use lib.ListN.{length}
+use Rattle.document.specs.declared.Numbers.{Numbers}
+use Rattle.document.specs.declared.Refusal.{Refusal}
+use Rattle.document.specs.declared.Refusal.the-variants.{Shape, Constant, StripLength, BufferLength}
+use Rattle.document.specs.declared.Answer.{Answer}
+use Rattle.document.specs.declared.Answer.the-variants.{Refused}
+use Rattle.document.specs.Refusals.{Test, Decides}
+use Rattle.document.specs.Profile.{ShapeAccepted}
+
+-- One line of the table 'Refusals by number, in the order they are tried', for one call.
+pub record Sentence : Type 1 where
+  pub refusal : Refusal
+  pub says : Type 0
+
+-- 'its condition is the first that holds in the order they are tried'
+pub data FirstOf : List Sentence → Refusal → Type 1 where
+  here : {s : Sentence} {table : List Sentence} → s .says → FirstOf (s ∷ table) (s .refusal)
+  later : {s : Sentence} {table : List Sentence} {r : Refusal} → (s .says → ⊥) → FirstOf table r → FirstOf (s ∷ table) r
+
+-- The outcome of a call is its answer, beside what the buffers lent for writing hold then.
+pub record RefusesExactly {X : Type 0} (table : List Sentence) (before : X) (outcome : Answer × X) : Type 1 where
+  -- 'given exactly when its condition is the first that holds'
+  pub given : (r : Refusal) → (outcome .0 ≡ Refused r) ↔ FirstOf table r
+  -- 'and it changes no byte that was lent'
+  pub kept : (r : Refusal) → outcome .0 ≡ Refused r → outcome .1 ≡ before
+
+-- Each test is true exactly where the sentence in its line holds.
+pub data Decided : List Test → List Sentence → Type 1 where
+  none : Decided [] []
+  line : {test : Test} {s : Sentence} {tests : List Test} {table : List Sentence} → test .refusal ≡ s .refusal
+      → Decides (test .holds) (s .says) → Decided tests table → Decided (test ∷ tests) (s ∷ table)
+
+-- '1: n, k or A not accepted. 2: t not in 2..255. 3: S is 0 or above 512.'
+unfoldable pub profileSentences : Numbers → List Sentence
+profileSentences p =
+    record { refusal = Shape; says = ShapeAccepted (p .n) (p .k) (p .a) → ⊥ }
+    ∷ record { refusal = Constant; says = (2 ≤ p .t) × (p .t ≤ 255) → ⊥ }
+    ∷ record { refusal = StripLength; says = (p .s ≡ 0) ⊎ (512 < p .s) }
+    ∷ []
+
+-- '5: a lent buffer .. has the wrong length': data have kAS bytes, an array nAS.
+unfoldable pub encodeSentences : Numbers → List ℕ → List ℕ → List Sentence
+encodeSentences p d x =
+    profileSentences p
+    ++ (record {
+      refusal = BufferLength;
+      says = (length d ≡ p .k * p .a * p .s) × (length x ≡ p .n * p .a * p .s) → ⊥;
+    }
+    ∷ [])

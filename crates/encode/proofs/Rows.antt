@@ -1,0 +1,150 @@
+-- The rows of base symbols: the data's columns are themselves, a parity column is a sum of weighted data columns.
+use mathlib.Core.Path.{_≡_, refl, sym, ap, ap₂, _∙_}
+use mathlib.Core.List.{List, [], _∷_, _++_, append-assoc}
+use Prim.Native.Nat.{ℕ, zero, suc, _+_, _*_, _/_, _%_, _≤_, _<_}
+use native.Mathlib.Nat.{div-add-mod', div-lt-iff-lt-mul, zero-mul, add-zero, suc-mul, add-mul, mul-assoc}
+use native.Mathlib.Numerals.{add-one}
+use native.Mathlib.Omega.{arith}
+use lib.ListN.{length, getD, take}
+use lib.Seq.{take-at, take-all}
+use Rattle.lists.specs.Listed.{listed}
+use Rattle.lists.proofs.Listed.{listed-length, listed-at, listed-ext, listed-take}
+use Rattle.gf256.specs.Field.{_⊕_, _⊗_}
+use Rattle.gf256.proofs.Ring as R
+use Rattle.algebra.specs.Field.{Field}
+use Rattle.algebra.specs.Sum.{sum}
+use Rattle.algebra.specs.Weight.{weight}
+use Rattle.algebra.proofs.Field as F
+use Rattle.algebra.proofs.Sum.{sum-ext}
+use Rattle.strips.specs.Strips.{sumOf, combinationOf}
+use Rattle.document.specs.declared.Profile.{Profile}
+use Rattle.document.specs.declared.Place.{Place}
+use Rattle.document.specs.Profile.{Accepted}
+use Rattle.document.specs.Places.{place}
+use Rattle.document.specs.Bytes.{bytes, Byte, byte, number}
+use Rattle.document.specs.Encoding.{start, byteAt, baseAt, laidOut, columnOf}
+use Rattle.document.proofs.Bytes.{number-byte, byte-number, number-zero, number-add, number-mul, byte-left, byte-right}
+use Rattle.coefficients.specs.Weights.{Different, Outside, points, weightsOf}
+use Rattle.coefficients.proofs.Lagrange.{weights-length, weights-at}
+use Rattle.coefficients.proofs.Products.{weight-ext}
+use Rattle.encode.specs.Steps.{dataNodes}
+use Rattle.document.proofs.Rows.{row-data}
+use Rattle.document.proofs.Arrays.{laid-length, laid-only, laid-next}
+
+-- a sum, the first term apart
+sum-front : (K : Field) (n : ℕ) (f : ℕ → K .carrier) → sum K (suc n) f ≡ K .add (f 0) (sum K n (λ i. f (suc i)))
+unfolding sum
+sum-front K zero f = K .add-comm (K .𝟘) (f 0)
+sum-front K (suc n) f =
+    ap (λ x. K .add x (f (suc n))) (sum-front K n f) ∙ K .add-assoc (f 0) (sum K n (λ i. f (suc i))) (f (suc n))
+
+-- the sum that `combine` makes at a byte is a sum of bytes
+pub sum-bytes : (ws src : List ℕ) (at stride : ℕ)
+    → sumOf ws src at stride
+    ≡ number (sum bytes (length ws) (λ q. bytes .mul (byte (getD src (at + q * stride) 0)) (byte (getD ws q 0))))
+unfolding sumOf sum
+sum-bytes [] src at stride = sym number-zero
+sum-bytes (w ∷ ws) src at stride =
+    ap₂ _⊕_ first (sum-bytes ws src (at + stride) stride ∙ ap number (sum-ext bytes (length ws) (λ q l. ap (λ (e : ℕ). bytes .mul (byte (getD src e 0)) (byte (getD ws q 0))) (omega (arith, suc-mul q stride)))))
+    ∙ sym (number-add _ _) ∙ ap number (sym (sum-front bytes (length ws) term))
+  where
+    term : ℕ → Byte
+    term q = bytes .mul (byte (getD src (at + q * stride) 0)) (byte (getD (w ∷ ws) q 0))
+
+    first : w ⊗ getD src at 0 ≡ number (term 0)
+    first =
+        R.mul-comm w (getD src at 0) ∙ sym (byte-right (getD src at 0) w) ∙ sym (byte-left (getD src at 0) (number (byte w)))
+        ∙ ap (λ (e : ℕ). number (byte (getD src e 0)) ⊗ number (byte w)) (sym (ap (λ (e : ℕ). at + e) (zero-mul stride) ∙ add-zero at))
+        ∙ sym (number-mul _ _)
+
+module _ (p : Profile) (d : List ℕ) where
+  open Profile p using (n, k, a as A, s as S)
+
+  -- the data are the first k columns
+  pub data-columns : Accepted p → length d ≡ k * A * S → ((e : ℕ) → getD d e 0 < 256) → d ≡ laidOut p k (baseAt p d)
+  unfolding byteAt start
+  data-columns acc size small =
+      laid-only p k (baseAt p d) d size (λ z b h l.
+      sym (ap number (row-data p d b (z % A) acc (z / A) (div-lt-iff-lt-mul (omega (arith, acc .shape .two-rows)) .1 h))
+      ∙ ap (λ (y : ℕ). number (byte (getD d (y * S + b) 0))) (div-add-mod' z A) ∙ number-byte (getD d (z * S + b) 0) (small (z * S + b))))
+
+  -- a parity column is the combination of the data columns by the weights of its node
+  pub parity-column : (j : ℕ) (ws : List ℕ) → length ws ≡ k
+      → ((q : ℕ) → q < k → getD ws q 0 ≡ number (weight bytes k byte q (byte j)))
+      → combinationOf ws d 0 (A * S) (A * S) ≡ columnOf p (baseAt p d) j
+  unfolding combinationOf columnOf baseAt byteAt start
+  parity-column j ws size at =
+      listed-ext (A * S) _ _ (λ o l.
+      sum-bytes ws d (0 + o) (A * S)
+      ∙ ap (λ (m : ℕ). number (sum bytes m (λ q. bytes .mul (byte (getD d (0 + o + q * (A * S)) 0)) (byte (getD ws q 0))))) size
+      ∙ ap number (sum-ext bytes k (λ q h.
+      ap₂ (bytes .mul) (ap (λ (e : ℕ). byte (getD d e 0)) (where-is q o)) (ap byte (at q h) ∙ byte-number (weight bytes k byte q (byte j))))))
+    where
+      where-is : (q o : ℕ) → 0 + o + q * (A * S) ≡ (q * A + o / S) * S + o % S
+      where-is q o = omega (arith, mul-assoc q A S, add-mul (q * A) (o / S) S, div-add-mod' o S)
+
+-- ---- column after column
+module _ (p : Profile) (f : ℕ → Place → Byte) where
+  open Profile p using (n, a as A, s as S)
+
+  width : (j : ℕ) → length (laidOut p j f) ≡ j * (A * S)
+  width j = laid-length p j f ∙ mul-assoc j A S
+
+  -- the columns before the first parity node
+  pub first-columns : (k : ℕ) (ys rest : List ℕ) → ys ≡ laidOut p k f → take (k * (A * S)) (ys ++ rest) ≡ laidOut p k f
+  first-columns k ys rest e = take-at ys rest (k * (A * S)) (ap length e ∙ width k) ∙ e
+
+  -- one column more
+  pub next-column : (j : ℕ) (xs ys rest : List ℕ) → take (j * (A * S)) xs ≡ laidOut p j f → ys ≡ columnOf p f j
+      → take ((j + 1) * (A * S)) (take (j * (A * S)) xs ++ (ys ++ rest)) ≡ laidOut p (j + 1) f
+  next-column j xs ys rest h e =
+      let more : take (j * (A * S)) xs ++ ys ≡ laidOut p (j + 1) f =
+      ap₂ (λ (u v : List ℕ). u ++ v) h e ∙ sym (ap (λ (m : ℕ). laidOut p m f) (add-one j) ∙ laid-next p j f) in
+      ap (take ((j + 1) * (A * S))) (sym (append-assoc (take (j * (A * S)) xs) ys rest))
+      ∙ take-at (take (j * (A * S)) xs ++ ys) rest ((j + 1) * (A * S)) (ap length more ∙ width (j + 1)) ∙ more
+
+  -- all columns
+  pub all-columns : (xs : List ℕ) → length xs ≡ n * A * S → take (n * (A * S)) xs ≡ laidOut p n f → xs ≡ laidOut p n f
+  all-columns xs size h = sym (take-all (n * (A * S)) xs (omega (arith, mul-assoc n A S))) ∙ h
+
+-- ---- the data nodes
+data-at : (k q : ℕ) → q < k → getD (dataNodes k) q 0 ≡ q
+unfolding dataNodes
+data-at k q h = listed-at k (λ q. q) q 0 h
+
+pub data-length : (k : ℕ) → length (dataNodes k) ≡ k
+unfolding dataNodes
+data-length k = listed-length k (λ q. q)
+
+pub data-nodes : (k : ℕ) {nodes : List ℕ} → nodes ≡ listed 24 (λ q. q) → k ≤ 24 → take k nodes ≡ dataNodes k
+unfolding dataNodes
+data-nodes k e h = ap (take k) e ∙ listed-take k 24 (λ q. q) h
+
+pub data-different : (k : ℕ) → k ≤ 24 → Different (dataNodes k)
+data-different k h = record {
+  few = rw data-length h;
+  apart = λ i j l b e. omega (arith, l, at i j l b e);
+}
+  where
+    at : (i j : ℕ) → i < j → j < length (dataNodes k) → getD (dataNodes k) i 0 ≡ getD (dataNodes k) j 0 → i ≡ j
+    at i j l b e =
+        let c : j < k = rw data-length at b in
+        sym (data-at k i (omega arith)) ∙ e ∙ data-at k j c
+
+-- a parity node is none of them
+pub parity-outside : (k j : ℕ) → k ≤ j → Outside (dataNodes k) j
+parity-outside k j h q b e =
+    let c : q < k = rw data-length at b in
+    let d : q ≡ j = sym (data-at k q c) ∙ e in
+    omega arith
+
+-- the weights of a parity node
+pub parity-weights : (k j : ℕ) → length (weightsOf (dataNodes k) j) ≡ k
+parity-weights k j = weights-length (dataNodes k) j ∙ data-length k
+
+pub parity-weight : (k j q : ℕ) → q < k
+    → getD (weightsOf (dataNodes k) j) q 0 ≡ number (weight bytes k byte q (byte j))
+parity-weight k j q h =
+    weights-at (dataNodes k) j q (rw data-length h)
+    ∙ ap (λ (m : ℕ). number (weight bytes m (points (dataNodes k)) q (byte j))) (data-length k)
+    ∙ ap number (weight-ext bytes k (points (dataNodes k)) byte q (byte j) (λ i l. ap byte (data-at k i l)) h)

@@ -1,0 +1,28 @@
+-- What the steps of encoding leave.
+--
+-- dataNodes k        : the numbers of the data nodes
+-- partnerStrip A z   : the number in memory's order of the partner of strip z
+-- pairCoupled p z x  : x with strip z and its partner coupled, where z is the upper one of the two
+use mathlib.Core.Bool.{cond}
+use mathlib.Core.List.{List}
+use Prim.Native.Nat.{ℕ, _+_, _*_, _/_, _%_}
+use lib.Dec.{ltb}
+use Rattle.lists.specs.Listed.{listed}
+use Rattle.strips.specs.Strips.{coupledStrips}
+use Rattle.document.specs.declared.Profile.{Profile}
+use Rattle.document.specs.Bytes.{number}
+use Rattle.document.specs.Encoding.{constantOf}
+
+unfoldable pub dataNodes : ℕ → List ℕ
+dataNodes k = listed k (λ q. q)
+
+-- Strip z is that of node z div A, row z mod A.
+abbrev pub partnerStrip : ℕ → ℕ → ℕ
+partnerStrip A z = (z / A / A * A + z % A) * A + z / A % A
+
+-- The upper strip of a pair has its row above the diagonal; the constant is that of the lower strip.
+unfoldable pub pairCoupled : Profile → ℕ → List ℕ → List ℕ
+pairCoupled p z x =
+    cond (ltb (z % p .a) (z / p .a % p .a))
+    (coupledStrips (number (constantOf p (z / p .a % p .a) (z % p .a))) (z * p .s) (partnerStrip (p .a) z * p .s) (p .s) x)
+    x

@@ -1,0 +1,144 @@
+// Encoding: plain rows by sums of weighted data columns, then the rows coupled pair by pair in place.
+ghost use mathlib.Core.Path.{_≡_};
+ghost use Prim.Native.Nat.{_*_, _<_, _≤_};
+ghost use lib.ListN.{length};
+ghost use Rattle.lists.specs.Listed.{listed};
+ghost use Rattle.document.specs.Profile.{Accepted};
+ghost use Rattle.document.specs.Encoding.{baseAt, columnOf, plain, coupled, encodeOf};
+ghost use Rattle.coefficients.specs.Weights.{denominatorsOf};
+ghost use Rattle.encode.specs.Steps.{dataNodes, pairCoupled};
+use document::Answer;
+use document::Checked;
+use document::Numbers;
+use document::Profile;
+use document::Refusal;
+
+// The numbers of the first nodes: the data nodes are the first k of them.
+fn first_nodes() -> [u8; 24]
+    ensures { λ r. ⌜ r ≡ listed 24 (λ q. q) ⌝ }
+{
+    [
+        0,
+        1,
+        2,
+        3,
+        4,
+        5,
+        6,
+        7,
+        8,
+        9,
+        10,
+        11,
+        12,
+        13,
+        14,
+        15,
+        16,
+        17,
+        18,
+        19,
+        20,
+        21,
+        22,
+        23,
+    ]
+}
+
+// The denominators of the data nodes' weights.
+fn data_denominators(k: usize, out: &mut [u8])
+    requires { ⌜ (k ≤ 24) × (length (now out) ≡ k) ⌝ }
+    ensures { λ _. ⌜ now (out .exit) ≡ denominatorsOf (dataNodes k) ⌝ }
+{
+    let nodes = first_nodes();
+    coefficients::denominators(&nodes[..k], out);
+}
+
+// The column of a parity node: the data columns, each times its weight, added up. Every row has the same weights, so a
+// whole column is one strip to the row code.
+fn put_parity(column: &mut [u8], p: Profile, input: &[u8], denominators: &[u8], j: usize)
+    requires { ⌜ Accepted p × (p .k ≤ j) × (j < p .n) ⌝ }
+    requires { ⌜ (length (now input) ≡ p .k * p .a * p .s) × (length (now column) ≡ p .a * p .s) ⌝ }
+    requires { ⌜ now denominators ≡ denominatorsOf (dataNodes (p .k)) ⌝ }
+    ensures { λ _. ⌜ now (column .exit) ≡ columnOf p (baseAt p (now (input .entry))) j ⌝ }
+{
+    let k = p.k;
+    let nodes = first_nodes();
+    let mut weights = [0u8; 24];
+    coefficients::weights(&nodes[..k], denominators, j as u8, &mut weights[..k]);
+    strips::combine(column, input, 0, p.a * p.s, &weights[..k]);
+}
+
+// The rows of base symbols: the data's columns as they are, then the parity columns.
+fn put_rows(array: &mut [u8], p: Profile, input: &[u8])
+    requires { ⌜ Accepted p ⌝ }
+    requires { ⌜ (length (now input) ≡ p .k * p .a * p .s) × (length (now array) ≡ p .n * p .a * p .s) ⌝ }
+    ensures { λ _. ⌜ now (array .exit) ≡ plain p (now (input .entry)) ⌝ }
+{
+    let k = p.k;
+    let n = p.n;
+    let width = p.a * p.s;
+    let first = k * width;
+    let mut denominators = [0u8; 24];
+    data_denominators(k, &mut denominators[..k]);
+    strips::copy(&mut array[..first], input);
+    let mut j = k;
+    while j < n {
+        let from = j * width;
+        let end = from + width;
+        put_parity(&mut array[from..end], p, input, &denominators[..k], j);
+        j += 1;
+    }
+}
+
+// Couples strip z with its partner, where z is the upper one of the two.
+fn couple_strip(x: &mut [u8], p: Profile, z: usize)
+    requires { ⌜ Accepted p × (length (now x) ≡ p .n * p .a * p .s) × (z < p .n * p .a) ⌝ }
+    ensures { λ _. ⌜ now (x .exit) ≡ pairCoupled p z (now (x .entry)) ⌝ }
+{
+    let q = p.place(z);
+    let i = q.row.0;
+    let l = q.node.0 % p.a;
+    if i < l {
+        let r = p.partner(q);
+        let row = r.row;
+        let upper = p.start(q);
+        let lower = p.start(r);
+        let t = p.constant(row, i);
+        strips::couple(x, upper, lower, p.s, t);
+    }
+}
+
+// Couples the rows of an array of any bytes, pair by pair in place.
+pub fn couple(x: &mut [u8], p: Profile)
+    requires { ⌜ Accepted p × (length (now x) ≡ p .n * p .a * p .s) ⌝ }
+    ensures { λ _. ⌜ now (x .exit) ≡ coupled p (now (x .entry)) ⌝ }
+{
+    let count = p.n * p.a;
+    let mut z: usize = 0;
+    while z < count {
+        couple_strip(x, p, z);
+        z += 1;
+    }
+}
+
+// Encodes the data into the array. After a refusal the array is what it was.
+pub fn encode(p: Numbers, input: &[u8], array: &mut [u8]) -> Answer
+    ensures { λ r. ⌜ (r, now (array .exit)) ≡ encodeOf p (now (input .entry)) (now (array .entry)) ⌝ }
+{
+    let checked = Profile::new(p);
+    match checked {
+        Checked::Rejected(r) => Answer::Refused(r),
+        Checked::Accepted(q) => {
+            if input.len() != q.k * q.a * q.s {
+                return Answer::Refused(Refusal::BufferLength);
+            }
+            if array.len() != q.n * q.a * q.s {
+                return Answer::Refused(Refusal::BufferLength);
+            }
+            put_rows(array, q, input);
+            couple(array, q);
+            Answer::Done(0)
+        }
+    }
+}

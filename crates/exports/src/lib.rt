@@ -1,0 +1,50 @@
+// The functions for a C host: plain numbers and byte slices over the entry points. include/whaupfield.h declares them.
+ghost use mathlib.Core.Path.{_≡_};
+ghost use Prim.Native.Nat.{_^_, _<_};
+ghost use Rattle.gf256.specs.Field;
+ghost use Rattle.gf256.specs.Field.{_⊗_};
+ghost use Rattle.document.specs.Refusals.{answerValue};
+ghost use Rattle.document.specs.Encoding.{encodeOf};
+ghost use Rattle.exports.specs.Packed.{packed, packedWith};
+use document::Answer;
+use document::Numbers;
+
+// The answer's number in the low byte, its value above it.
+fn pack(answer: Answer) -> u64
+    requires { ⌜ answerValue answer < 2 ^ 55 ⌝ }
+    ensures { λ r. ⌜ r ≡ packed answer ⌝ }
+{
+    match answer {
+        Answer::Done(v) => 256 * (v as u64),
+        Answer::Refused(r) => (r.number() as u64) + 256 * (r.index() as u64),
+    }
+}
+
+#[no_mangle]
+pub extern "C" fn whaupfield_encode(
+    n: usize,
+    k: usize,
+    a: usize,
+    t: usize,
+    s: usize,
+    input: &[u8],
+    array: &mut [u8],
+) -> u64
+    ensures { λ r. ⌜ (r, now (array .exit)) ≡ packedWith (encodeOf (record { n = n; k = k; a = a; t = t; s = s }) (now (input .entry)) (now (array .entry))) ⌝ }
+{
+    pack(encode::encode(Numbers { n, k, a, t, s }, input, array))
+}
+
+#[no_mangle]
+pub extern "C" fn whaupfield_product(a: u8, b: u8) -> u8
+    ensures { λ r. ⌜ r ≡ a ⊗ b ⌝ }
+{
+    gf256::mul(a, b)
+}
+
+#[no_mangle]
+pub extern "C" fn whaupfield_inverse(a: u8) -> u8
+    ensures { λ r. ⌜ r ≡ Field.inverse a ⌝ }
+{
+    gf256::inverse(a)
+}

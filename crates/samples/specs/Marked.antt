@@ -1,0 +1,63 @@
+-- 'Sample numbers (marked M: to be shown)': the marked cases of document 01 in one list, shown by one claim about it.
+--
+-- Case   : what a definition gives, and what document 01 says it gives
+-- marked : the cases
+-- shown  : what the cases give is what document 01 says
+use mathlib.Core.Path.{_≡_, refl}
+use mathlib.Core.List.{List, [], _∷_, map}
+use Prim.Native.Nat.{ℕ}
+use native.Mathlib.Decide.{ℕ-discrete, decLt}
+use Rattle.lists.specs.Listed.{listed}
+use Rattle.gf256.specs.Field.{_⊕_, _⊗_, double, digitProduct, raised, inverse}
+use Rattle.algebra.specs.Sum.{sum}
+use Rattle.algebra.specs.Weight.{weight}
+use Rattle.document.specs.declared.Numbers.{Numbers}
+use Rattle.document.specs.declared.Answer.{Answer}
+use Rattle.document.specs.Refusals.{tried, answerNumber, answerValue}
+use Rattle.document.specs.Profile.{shapeAccepted, constantAccepted, stripAccepted, profileTests}
+use Rattle.document.specs.Bytes.{bytes, byte, number}
+use Rattle.document.specs.Encoding.{
+  start,
+  byteAt,
+  baseAt,
+  constantOf,
+  coupledAt,
+  laidOut,
+  encoded,
+  encodeTests,
+  encodeOf,
+}
+
+pub record Case : Type 0 where
+  pub gives : List ℕ
+  pub says : List ℕ
+
+-- 'All with (4,2,2), S = 1', and a coupling constant.
+abbrev pub profile : ℕ → Numbers
+profile t = record { n = 4; k = 2; a = 2; t = t; s = 1 }
+
+-- An answer and a lent buffer, written as one list: number, value, bytes.
+abbrev pub outcome : Answer × List ℕ → List ℕ
+outcome (answer, x) = answerNumber answer ∷ answerValue answer ∷ x
+
+unfoldable pub zeros : List ℕ
+zeros = 0 ∷ 0 ∷ 0 ∷ 0 ∷ 0 ∷ 0 ∷ 0 ∷ 0 ∷ []
+
+-- M1 to M4, in document 01's order.
+unfoldable pub marked : List Case
+marked =
+    record { gives = 128 ⊗ 128 ∷ []; says = 19 ∷ [] }
+    ∷ record { gives = inverse 2 ∷ []; says = 142 ∷ [] }
+    ∷ record { gives = 3 ⊗ 3 ∷ []; says = 5 ∷ [] }
+    ∷ record {
+      gives = outcome (encodeOf (profile 2) (0x01 ∷ 0x00 ∷ 0x02 ∷ 0x04 ∷ []) zeros);
+      says = 0 ∷ 0 ∷ 0x01 ∷ 0x04 ∷ 0x02 ∷ 0x04 ∷ 0x07 ∷ 0x00 ∷ 0x0C ∷ 0x0C ∷ [];
+    }
+    ∷ []
+
+-- Each marked case gives what document 01 says.
+pub shown : map (λ c. c .gives) marked ≡ map (λ c. c .says) marked
+unfolding marked zeros encodeOf encodeTests profileTests shapeAccepted constantAccepted stripAccepted tried answerNumber
+    answerValue encoded laidOut coupledAt constantOf baseAt byteAt start listed sum weight byte number bytes _⊕_ _⊗_
+    double digitProduct raised inverse ℕ-discrete decLt
+shown = refl

@@ -1,0 +1,180 @@
+// Runs document 01's samples and edges that concern the field, the profile and encoding, and prints what each gives. The
+// file `stdout` says what document 01 says; the marked cases are shown in specs/Marked.antt besides.
+ghost use Prim.Native.Nat.{_≤_, _<_};
+use document::Answer;
+use document::Numbers;
+use libc::STDOUT_FILENO;
+
+fn print(text: &[u8]) {
+    io::write_all(STDOUT_FILENO, text);
+}
+
+// A hexadecimal digit, as document 01 writes it.
+fn digit(n: u8) -> u8
+    requires { ⌜ n < 16 ⌝ }
+{
+    if n < 10 { b'0' + n } else { b'A' + (n - 10) }
+}
+
+fn print_byte(b: u8) {
+    let text = [b' ', digit(b / 16), digit(b % 16)];
+    print(&text);
+}
+
+fn print_bytes(bytes: &[u8]) {
+    let mut i = 0;
+    while i < bytes.len() {
+        print_byte(bytes[i]);
+        i += 1;
+    }
+}
+
+fn print_number(n: u8) {
+    print(b" ");
+    io::print_decimal(STDOUT_FILENO, n as u64);
+}
+
+// Encodes data of (4,2,2) with strips of one byte into the array.
+fn encode_small(t: usize, input: &[u8], array: &mut [u8]) {
+    let p = Numbers {
+        n: 4,
+        k: 2,
+        a: 2,
+        t: t,
+        s: 1,
+    };
+    encode::encode(p, input, array);
+}
+
+// M4: the array of 01 00 02 04 with t = 2.
+fn sample_array() {
+    let input = [0x01u8, 0x00, 0x02, 0x04];
+    let mut array = [0u8; 8];
+    encode_small(2, &input, &mut array);
+    print_bytes(&array);
+}
+
+// M9: the columns of nodes 0 and 3 of the array of 00 05 01 06 with t = 5.
+fn zero_columns() {
+    let input = [0x00u8, 0x05, 0x01, 0x06];
+    let mut array = [0xFFu8; 8];
+    encode_small(5, &input, &mut array);
+    print_bytes(&array[0..2]);
+    print_bytes(&array[6..8]);
+}
+
+// Encodes with a profile on its edge: data of `wanted` bytes, an array of `room` bytes.
+fn print_edge(name: &[u8], p: Numbers, wanted: usize, room: usize)
+    requires { ⌜ (wanted ≤ 2052) × (room ≤ 4104) ⌝ }
+{
+    let input = [0u8; 2052];
+    let mut array = [0u8; 4104];
+    print(name);
+    let answer = encode::encode(p, &input[..wanted], &mut array[..room]);
+    match answer {
+        Answer::Done(_) => print(b" passes"),
+        Answer::Refused(r) => {
+            print(b" is");
+            print_number(r.number());
+        }
+    }
+    print(b"\n");
+}
+
+fn main() {
+    print(b"M1");
+    print_number(gf256::mul(128, 128));
+    print(b"\nM2");
+    print_number(gf256::inverse(2));
+    print(b"\nM3");
+    print_number(gf256::mul(3, 3));
+    print(b"\nM4");
+    sample_array();
+    print(b"\nM9");
+    zero_columns();
+    print(b"\n");
+    print_edge(
+        b"t = 1",
+        Numbers {
+            n: 4,
+            k: 2,
+            a: 2,
+            t: 1,
+            s: 1,
+        },
+        4,
+        8,
+    );
+    print_edge(
+        b"t = 2",
+        Numbers {
+            n: 4,
+            k: 2,
+            a: 2,
+            t: 2,
+            s: 1,
+        },
+        4,
+        8,
+    );
+    print_edge(
+        b"S = 512",
+        Numbers {
+            n: 4,
+            k: 2,
+            a: 2,
+            t: 2,
+            s: 512,
+        },
+        2048,
+        4096,
+    );
+    print_edge(
+        b"S = 513",
+        Numbers {
+            n: 4,
+            k: 2,
+            a: 2,
+            t: 2,
+            s: 513,
+        },
+        2052,
+        4104,
+    );
+    print_edge(
+        b"A = 4 with n-k = 3",
+        Numbers {
+            n: 8,
+            k: 5,
+            a: 4,
+            t: 2,
+            s: 1,
+        },
+        20,
+        32,
+    );
+    print_edge(
+        b"n = 14 with A = 4",
+        Numbers {
+            n: 14,
+            k: 10,
+            a: 4,
+            t: 2,
+            s: 1,
+        },
+        40,
+        56,
+    );
+    print_edge(
+        b"k = 1 with (4,1,2)",
+        Numbers {
+            n: 4,
+            k: 1,
+            a: 2,
+            t: 2,
+            s: 1,
+        },
+        2,
+        8,
+    );
+}

@@ -1,0 +1,6 @@
+pub mod Written
+pub mod Byte
+pub mod Combination
+pub mod Gathered
+pub mod Passes
+pub mod Coupled

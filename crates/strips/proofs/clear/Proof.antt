@@ -1,0 +1,55 @@
+-- `strips::clear` meets its contract.
+use mathlib.Core.Path.{refl}
+use Prim.Native.Nat.{_-_}
+use native.Mathlib.Omega.{arith}
+use borrow.Author.Needs.{needs}
+use lib.ListN.{length}
+use Rattle.strips.proofs.Written.{Written, written-none, written-all, written-more}
+use Rattle.strips.proofs.clear.Statement.{statement}
+use Rattle.strips.proofs.clear.Tie as tie
+
+abbrev Inv-loop : tie.InvT-loop
+Inv-loop dst₀ b₀ dst b = Written (λ b. 0) b dst₀ dst
+
+abbrev μ-loop : tie.MeasureT-loop
+μ-loop dst₀ b₀ dst b = length dst₀ - b
+
+loop-holds : tie.Need-loop-holds Inv-loop μ-loop
+loop-holds c = written-none _ _
+
+slice-write-dst : tie.Need-slice-write-dst Inv-loop μ-loop
+slice-write-dst c = search needs
+
+add-b : tie.Need-add-b Inv-loop μ-loop
+add-b c = search needs
+
+loop-less : tie.Need-loop-less Inv-loop μ-loop
+loop-less c = search needs
+
+loop-again : tie.Need-loop-again Inv-loop μ-loop
+loop-again c =
+    let l = c .before .loop in
+    let g = c .before .before .args in
+    written-more _ (l .b) (g .dst .now) (l .dst) (l .inv) (omega arith) _ refl
+
+same-length : tie.Need-same-length Inv-loop μ-loop
+same-length c = search needs
+
+returns : tie.Need-returns Inv-loop μ-loop
+returns c =
+    let l = c .before .loop in
+    written-all _ (l .b) _ (l .dst) (l .inv) (omega arith)
+
+pub clear-spec : {M : Type 1} → statement M
+clear-spec =
+    tie.close
+    (tie.spec
+    Inv-loop
+    μ-loop
+    loop-holds
+    slice-write-dst
+    add-b
+    loop-less
+    loop-again
+    same-length
+    returns)

@@ -1,0 +1,223 @@
+// What is done to whole strips. No table is read here: the loops over bytes hold shifts and exclusive ors alone.
+ghost use mathlib.Core.Path.{_≡_};
+ghost use Prim.Native.Nat.{ℕ, _+_, _*_, _^_, _<_, _≤_};
+ghost use lib.ListN.{length, take, drop, replicate};
+ghost use Rattle.gf256.specs.Field.{_⊗_, double};
+ghost use Rattle.lists.specs.Listed.{listed};
+ghost use Rattle.strips.specs.Strips.{combinationOf, coupledStrips, Within};
+ghost use Rattle.strips.specs.Planes.{digitsAt, planeOf, offsetsOf, addedWith, doubledWith};
+ghost use Rattle.strips.specs.Planes.{partOf, addedFour, doubledFour, Alike, Lent};
+
+// The product with 2.
+fn twice(a: u8) -> u8
+    ensures { λ r. ⌜ r ≡ double a ⌝ }
+{
+    let r: u8 = if a >= 128 { 0x1D } else { 0 };
+    (a << 1) ^ r
+}
+
+// The product, by the digits of s: a form that the compiler turns into vectors.
+fn times(c: u8, s: u8) -> u8
+    ensures { λ r. ⌜ r ≡ c ⊗ s ⌝ }
+{
+    let mut r: u8 = 0;
+    let mut x = c;
+    let mut y = s;
+    let mut n: usize = 8;
+    while n > 0 {
+        if (y & 1) == 1 {
+            r = r ^ x;
+        }
+        x = twice(x);
+        y = y >> 1;
+        n -= 1;
+    }
+    r
+}
+
+// Copies a strip.
+pub fn copy(dst: &mut [u8], src: &[u8])
+    requires { ⌜ length (now src) ≡ length (now dst) ⌝ }
+    ensures { λ _. ⌜ now (dst .exit) ≡ now (src .entry) ⌝ }
+{
+    let mut b: usize = 0;
+    while b < src.len() {
+        dst[b] = src[b];
+        b += 1;
+    }
+}
+
+// Fills a strip with zeros.
+fn clear(dst: &mut [u8])
+    ensures { λ _. ⌜ now (dst .exit) ≡ listed (length (now (dst .entry))) (λ b. 0) ⌝ }
+{
+    let mut b: usize = 0;
+    while b < dst.len() {
+        dst[b] = 0;
+        b += 1;
+    }
+}
+
+// Adds four strips.
+fn add_four(dst: &mut [u8], s0: &[u8], s1: &[u8], s2: &[u8], s3: &[u8])
+    requires { ⌜ Alike (now dst) (now s0) (now s1) (now s2) (now s3) ⌝ }
+    ensures { λ _. ⌜ now (dst .exit)
+        ≡ addedFour (now (dst .entry)) (now (s0 .entry)) (now (s1 .entry)) (now (s2 .entry)) (now (s3 .entry)) ⌝ }
+{
+    let mut b: usize = 0;
+    while b < dst.len() {
+        dst[b] = dst[b] ^ s0[b] ^ s1[b] ^ s2[b] ^ s3[b];
+        b += 1;
+    }
+}
+
+// Doubles a strip and adds four.
+fn double_add_four(dst: &mut [u8], s0: &[u8], s1: &[u8], s2: &[u8], s3: &[u8])
+    requires { ⌜ Alike (now dst) (now s0) (now s1) (now s2) (now s3) ⌝ }
+    ensures { λ _. ⌜ now (dst .exit)
+        ≡ doubledFour (now (dst .entry)) (now (s0 .entry)) (now (s1 .entry)) (now (s2 .entry)) (now (s3 .entry)) ⌝ }
+{
+    let mut b: usize = 0;
+    while b < dst.len() {
+        dst[b] = twice(dst[b]) ^ s0[b] ^ s1[b] ^ s2[b] ^ s3[b];
+        b += 1;
+    }
+}
+
+// Gathers the offsets of the sources whose weight has digit i, and returns their number. A source is left out by
+// writing the next one over it: a branch on random digits would cost more.
+fn gather(at: &mut [usize], weights: &[u8], i: usize, first: usize, stride: usize) -> usize
+    requires { ⌜ (length (now weights) ≤ length (now at)) × (i < 8)
+        × ((q : ℕ) → q < length (now weights) → first + q * stride < 2 ^ 64) ⌝ }
+    ensures { λ r. ⌜ (r ≤ length (now (at .exit)))
+        × (take r (now (at .exit)) ≡ offsetsOf (digitsAt i (now (weights .entry))) first stride) ⌝ }
+{
+    let mut count: usize = 0;
+    let mut q: usize = 0;
+    while q < weights.len() {
+        at[count] = first + q * stride;
+        count += ((weights[q] >> i) % 2) as usize;
+        q += 1;
+    }
+    count
+}
+
+// The source with number j among those gathered, or zeros past them.
+fn part<'a>(
+    src: &'a [u8],
+    zeros: &'a [u8],
+    at: &[usize],
+    count: usize,
+    j: usize,
+    n: usize,
+) -> &'a [u8]
+    requires { ⌜ Lent (now zeros) (now src) (take count (now at)) n × (count ≤ length (now at)) ⌝ }
+    ensures { λ r. ⌜ now r ≡ partOf (take count (now (at .entry))) (now (src .entry)) j n ⌝ }
+{
+    if j < count {
+        let from = at[j];
+        let end = from + n;
+        return &src[from..end];
+    }
+    &zeros[..n]
+}
+
+// The first pass over a plane: doubles, and adds the first four sources.
+fn double_first<'a>(dst: &mut [u8], src: &'a [u8], zeros: &'a [u8], at: &[usize], count: usize)
+    requires { ⌜ Lent (now zeros) (now src) (take count (now at)) (length (now dst)) × (count ≤ length (now at)) ⌝ }
+    ensures { λ _. ⌜ now (dst .exit)
+        ≡ doubledWith (take 4 (take count (now (at .entry)))) (now (src .entry)) (now (dst .entry)) ⌝ }
+{
+    let n = dst.len();
+    let s0 = part(src, zeros, at, count, 0, n);
+    let s1 = part(src, zeros, at, count, 1, n);
+    let s2 = part(src, zeros, at, count, 2, n);
+    let s3 = part(src, zeros, at, count, 3, n);
+    double_add_four(dst, s0, s1, s2, s3);
+}
+
+// A later pass: adds the four sources from number j on.
+fn add_next<'a>(
+    dst: &mut [u8],
+    src: &'a [u8],
+    zeros: &'a [u8],
+    at: &[usize],
+    count: usize,
+    j: usize,
+)
+    requires { ⌜ Lent (now zeros) (now src) (take count (now at)) (length (now dst))
+        × (count ≤ length (now at)) × (j < count) ⌝ }
+    ensures { λ _. ⌜ now (dst .exit)
+        ≡ addedWith (take 4 (drop j (take count (now (at .entry))))) (now (src .entry)) (now (dst .entry)) ⌝ }
+{
+    let n = dst.len();
+    let s0 = part(src, zeros, at, count, j, n);
+    let s1 = part(src, zeros, at, count, j + 1, n);
+    let s2 = part(src, zeros, at, count, j + 2, n);
+    let s3 = part(src, zeros, at, count, j + 3, n);
+    add_four(dst, s0, s1, s2, s3);
+}
+
+// Doubles dst and adds the sources that were gathered, four in a pass.
+fn double_add<'a>(dst: &mut [u8], src: &'a [u8], zeros: &'a [u8], at: &[usize], count: usize)
+    requires { ⌜ Lent (now zeros) (now src) (take count (now at)) (length (now dst)) × (count ≤ length (now at)) ⌝ }
+    ensures { λ _. ⌜ now (dst .exit)
+        ≡ doubledWith (take count (now (at .entry))) (now (src .entry)) (now (dst .entry)) ⌝ }
+{
+    double_first(dst, src, zeros, at, count);
+    let mut j: usize = 4;
+    while j < count {
+        add_next(dst, src, zeros, at, count, j);
+        j += 4;
+    }
+}
+
+// The step of Horner's rule for digit i of the weights.
+fn plane<'a>(
+    dst: &mut [u8],
+    src: &'a [u8],
+    first: usize,
+    stride: usize,
+    weights: &[u8],
+    zeros: &'a [u8],
+    i: usize,
+)
+    requires { ⌜ Within first stride (length (now weights)) (length (now dst)) (length (now src))
+        × (now zeros ≡ replicate 2048 0) × (i < 8) ⌝ }
+    ensures { λ _. ⌜ now (dst .exit)
+        ≡ planeOf i (now (weights .entry)) (now (src .entry)) first stride (now (dst .entry)) ⌝ }
+{
+    let mut at = [0usize; 24];
+    let count = gather(&mut at, weights, i, first, stride);
+    double_add(dst, src, zeros, &at, count);
+}
+
+// The sum of the sources at first, first + stride, .. with these weights, by Horner's rule over the weights' digits.
+pub fn combine(dst: &mut [u8], src: &[u8], first: usize, stride: usize, weights: &[u8])
+    requires { ⌜ Within first stride (length (now weights)) (length (now dst)) (length (now src)) ⌝ }
+    ensures { λ _. ⌜ now (dst .exit)
+        ≡ combinationOf (now (weights .entry)) (now (src .entry)) first stride (length (now (dst .entry))) ⌝ }
+{
+    let zeros = [0u8; 2048];
+    clear(dst);
+    let mut i: usize = 8;
+    while i > 0 {
+        i -= 1;
+        plane(dst, src, first, stride, weights, &zeros, i);
+    }
+}
+
+// Couples the strip at `upper` with the strip at `lower`, which lies before it.
+pub fn couple(x: &mut [u8], upper: usize, lower: usize, s: usize, t: u8)
+    requires { ⌜ (lower + s ≤ upper) × (upper + s ≤ length (now x)) ⌝ }
+    ensures { λ _. ⌜ now (x .exit) ≡ coupledStrips t upper lower s (now (x .entry)) ⌝ }
+{
+    let mut b: usize = 0;
+    while b < s {
+        let u = x[upper + b];
+        let v = x[lower + b];
+        x[upper + b] = u ^ v;
+        x[lower + b] = v ^ times(t, u);
+        b += 1;
+    }
+}
