@@ -1,5 +1,5 @@
 -- Laws of finite sums.
-use mathlib.Core.Path.{_≡_, refl, ap₂, _∙_}
+use mathlib.Core.Path.{_≡_, refl, ap, ap₂, _∙_}
 use mathlib.Core.Logic.{_≢_}
 use Prim.Native.Nat.{ℕ, zero, suc, _<_}
 use native.Mathlib.Omega.{arith}
@@ -46,3 +46,10 @@ module _ (K : Field) where
       go : Dec (n ≡ j) → (j < n → sum K n f ≡ f j) → sum K n f ⊕ f n ≡ f j
       go (yes e) r = rw (sum-zero n {f = f} (λ i k. h i (omega arith) (omega arith)), e, zero-add)
       go (no d) r = rw (r (omega arith), h n (omega arith) d, add-zero)
+
+  -- A sum, its first term apart.
+  pub sum-front : (n : ℕ) (f : ℕ → F) → sum K (suc n) f ≡ f 0 ⊕ sum K n (λ i. f (suc i))
+  unfolding sum
+  sum-front zero f = K .add-comm 𝟘 (f 0)
+  sum-front (suc n) f =
+      ap (λ x. x ⊕ f (suc n)) (sum-front n f) ∙ K .add-assoc (f 0) (sum K n (λ i. f (suc i))) (f (suc n))

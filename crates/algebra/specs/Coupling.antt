@@ -13,7 +13,7 @@ use native.Mathlib.Decide.{ℕ-discrete, decLt}
 use Rattle.algebra.specs.Field.{Field}
 use Rattle.algebra.specs.Pick.{pick}
 
--- "The partner of row i, node j is row l, node gA+i", where g = j div A and l = j mod A.
+-- 'The partner of row i, node j is row l, node gA+i', where g = j div A and l = j mod A.
 abbrev pub partnerNode : ℕ → ℕ → ℕ → ℕ
 partnerNode A i j = j / A * A + i
 

@@ -16,7 +16,7 @@ pub record Choice (m n : ℕ) (s : ℕ → ℕ) : Type 0 where
 module _ (K : Field) (n : ℕ) (point : ℕ → K .carrier) where
   open Field K using (carrier as F)
 
-  -- One row of base symbols: "the list of values, at the points 0..n-1, of a polynomial of degree below k".
+  -- One row of base symbols: 'the list of values, at the points 0..n-1, of a polynomial of degree below k'.
   pub record Codeword (k : ℕ) (a : ℕ → F) : Type 0 where
     pub polynomial : F → F
     pub poly : Polynomial K k polynomial

@@ -16,7 +16,7 @@ use Rattle.document.specs.Bytes.{bytes, Byte, byte, number}
 use Rattle.document.proofs.Bytes.{number-zero, number-byte, byte-number, number-add, number-mul, number-inv}
 use Rattle.coefficients.specs.Weights.{Different, Outside, points, weightsOf}
 use Rattle.coefficients.specs.Weights.{differencesOf, denominatorOf, denominatorsOf, Divisors, weightsFrom}
-use Rattle.coefficients.proofs.Products.{product-ne-zero, weight-quotient}
+use Rattle.algebra.proofs.Weight.{product-ne-zero, weight-quotient}
 use Rattle.coefficients.proofs.Lists.{product-listed, quotients-listed}
 
 -- ---- for callers: the length and the entries of the weights

@@ -1,3 +1,3 @@
-pub mod Products
 pub mod Lists
 pub mod Lagrange
+pub mod Combination

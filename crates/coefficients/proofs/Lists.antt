@@ -1,48 +1,19 @@
--- Lists that a loop fills from the front, and the products and quotients of lists.
-use mathlib.Core.Path.{_≡_, refl, sym, ap, ap₂, _∙_}
-use mathlib.Core.List.{List, [], _∷_, _++_}
-use Prim.Native.Nat.{ℕ, zero, suc, _+_, _<_, _≤_}
-use native.Mathlib.Nat.{add-zero}
-use native.Mathlib.Numerals.{add-one}
+-- Products and quotients of listed bytes are those of the field.
+use mathlib.Core.Path.{_≡_, refl, sym, ap, _∙_}
+use mathlib.Core.List.{List, _∷_}
+use Prim.Native.Nat.{ℕ, zero, suc, _<_}
 use native.Mathlib.Decide.{ℕ-discrete}
-use native.Mathlib.Omega.{arith}
-use lib.ListN.{length, length-append, length-set, getD, take, drop, set, replicate}
-use lib.Seq.{ext-getD, getD-set-same, getD-set-other, set-append-left, take-all, take-at, take-suc-set}
+use lib.ListN.{length-set, getD, set}
+use lib.Seq.{ext-getD, getD-set-same, getD-set-other}
 use Rattle.lists.specs.Listed.{listed}
-use Rattle.lists.proofs.Listed.{listed-length, listed-at, listed-add}
+use Rattle.lists.proofs.Listed.{listed-length, listed-at}
 use Rattle.gf256.specs.Field.{_⊗_, inverse, productOf, quotientsOf}
 use Rattle.algebra.specs.Pick.{pick}
 use Rattle.algebra.proofs.Pick.{pick-yes, pick-no}
 use Rattle.algebra.specs.Weight.{product, productBut}
+use Rattle.algebra.proofs.Weight.{product-first, product-replaced}
 use Rattle.document.specs.Bytes.{bytes, Byte, number}
 use Rattle.document.proofs.Bytes.{number-one, number-mul}
-use Rattle.coefficients.proofs.Products.{product-first, product-replaced}
-
--- ---- a loop that stores f i at i
-module _ (f : ℕ → ℕ) (out : List ℕ) (i : ℕ) (h : take i out ≡ listed i f) where
-  pub filled-more : (v : ℕ) → v ≡ f i → i < length out → take (i + 1) (set out i v) ≡ listed (i + 1) f
-  unfolding listed
-  filled-more v e l =
-      ap (λ (n : ℕ). take n (set out i v)) (add-one i) ∙ take-suc-set out i v l
-      ∙ ap₂ (λ (xs : List ℕ) (x : ℕ). xs ++ (x ∷ [])) h (e ∙ ap f (sym (add-zero i))) ∙ sym (listed-add i 1 f)
-
-  pub filled-all : i ≡ length out → out ≡ listed i f
-  filled-all e = sym (take-all i out (omega arith)) ∙ h
-
--- ---- the part of an array that was lent and written: e, before what was left of the array
-module _ {k : ℕ} (e : List ℕ) (h : length e ≡ k) where
-  abbrev rest : List ℕ
-  rest = drop k (replicate 24 0)
-
-  pub front-fits : k ≤ length (e ++ rest)
-  front-fits = rw length-append (omega arith)
-
-  pub front : take k (e ++ rest) ≡ e
-  front = take-at e rest k h
-
-  pub front-set : (q v : ℕ) → q < k → take k (set (e ++ rest) q v) ≡ set e q v
-  front-set q v l =
-      ap (take k) (set-append-left e rest q v (omega arith)) ∙ take-at (set e q v) rest k (length-set e q v ∙ h)
 
 -- ---- products and quotients of listed entries
 -- The product of a list is the product in the field.

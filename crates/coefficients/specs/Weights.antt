@@ -17,11 +17,12 @@ use lib.ListN.{length, getD}
 use Rattle.lists.specs.Listed.{listed}
 use Rattle.gf256.specs.Field.{productOf, quotientsOf, NoZero}
 use Rattle.algebra.specs.Weight.{weight, productBut}
+use Rattle.document.specs.Profile.{maxNodes}
 use Rattle.document.specs.Bytes.{bytes, Byte, byte, number}
 
--- Any nodes from which a polynomial can be read: as many as a profile can have, each once.
+-- At most as many nodes as a profile can have, no two equal.
 pub record Different (nodes : List ℕ) : Type 0 where
-  pub few : length nodes ≤ 24
+  pub few : length nodes ≤ maxNodes
   pub apart : (i j : ℕ) → i < j → j < length nodes → getD nodes i 0 ≢ getD nodes j 0
 
 -- A node at which the polynomial is wanted and not given.
@@ -48,14 +49,14 @@ denominatorOf nodes q = number (productBut bytes (length nodes) q (λ i. bytes .
 unfoldable pub denominatorsOf : List ℕ → List ℕ
 denominatorsOf nodes = listed (length nodes) (denominatorOf nodes)
 
--- What is divided by: whoever divides shows that nothing of it is 0.
+-- What a caller shows of the divisors: none is 0.
 pub record Divisors (differences denominators : List ℕ) : Type 0 where
-  pub few : length differences ≤ 24
+  pub few : length differences ≤ maxNodes
   pub alike : length denominators ≡ length differences
   pub no-difference-zero : NoZero differences
   pub no-denominator-zero : NoZero denominators
 
--- The weights in barycentric form: the one product serves all of them.
+-- The weights in barycentric form: the product of all differences is computed once.
 unfoldable pub weightsFrom : List ℕ → List ℕ → List ℕ
 weightsFrom differences denominators =
     quotientsOf (quotientsOf (listed (length differences) (λ i. productOf differences)) differences) denominators

@@ -3,7 +3,6 @@
 ghost use mathlib.Core.Path.{_≡_};
 ghost use Prim.Native.Nat.{_≤_, _<_};
 ghost use lib.ListN.{length};
-ghost use Rattle.lists.specs.Listed.{listed};
 ghost use Rattle.coefficients.specs.Weights.{Different, Outside, weightsOf};
 ghost use Rattle.coefficients.specs.Weights.{differencesOf, denominatorOf, denominatorsOf, Divisors, weightsFrom};
 
@@ -46,24 +45,13 @@ pub fn denominators(nodes: &[u8], out: &mut [u8])
     }
 }
 
-// The same value everywhere.
-fn fill(out: &mut [u8], value: u8)
-    ensures { λ _. ⌜ now (out .exit) ≡ listed (length (now (out .entry))) (λ i. value) ⌝ }
-{
-    let mut i = 0;
-    while i < out.len() {
-        out[i] = value;
-        i += 1;
-    }
-}
-
 // The weights, from the differences and the denominators: the product of all differences is taken once.
 fn quotients(differences: &[u8], denominators: &[u8], out: &mut [u8])
     requires { ⌜ Divisors (now differences) (now denominators) ⌝ }
     requires { ⌜ length (now out) ≡ length (now differences) ⌝ }
     ensures { λ _. ⌜ now (out .exit) ≡ weightsFrom (now (differences .entry)) (now (denominators .entry)) ⌝ }
 {
-    fill(out, gf256::product_of(differences));
+    strips::fill(out, gf256::product_of(differences));
     gf256::divide_all(out, differences);
     gf256::divide_all(out, denominators);
 }

@@ -12,7 +12,7 @@ use Rattle.document.specs.declared.Refusal.{Refusal}
 use Rattle.document.specs.declared.Refusal.the-variants.{Shape, Constant, StripLength}
 use Rattle.document.specs.declared.Answer.{Answer}
 use Rattle.document.specs.declared.Answer.the-variants.{Done, Refused}
-use Rattle.document.specs.Refusals.{Test, tried, Decides}
+use Rattle.document.specs.Refusals.{numberOf, Test, tried, Decides}
 use Rattle.document.specs.Profile.{ShapeAccepted, Accepted, profileTests, profileOf}
 use Rattle.document.specs.Encoding.{encoded, encodeTests, encodeOf}
 use Rattle.document.proofs.Decides.{decides-eq, decides-both, decides-not, decides-same}
@@ -28,6 +28,8 @@ use Rattle.demands.specs.Refusals.{
   line,
   profileSentences,
   encodeSentences,
+  Numbered,
+  Demand1Encode,
 }
 
 -- done is not refused
@@ -130,7 +132,7 @@ module _ {X : Type 0} (before : X) where
   done-accepted p table outcome v R e = record {
     shape = shape;
     above-one = constant .0;
-    byte = constant .1;
+    one-byte = constant .1;
     some-bytes = strip .0;
     short = strip .1;
   }
@@ -169,6 +171,11 @@ encode-decided p d x =
     none)
 
 -- Encoding refuses exactly as the table says, and a refusal leaves the array as it was.
-pub demand-1-encode : (p : Numbers) (d x : List ℕ) → RefusesExactly (encodeSentences p d x) x (encodeOf p d x)
+pub demand-1-encode : Demand1Encode
 unfolding encodeOf
 demand-1-encode p d x = tried-exactly x 0 (encoded (profileOf p) d) (encode-decided p d x)
+
+-- The table has document 01's numbers.
+pub numbered : Numbered
+unfolding encodeSentences profileSentences numberOf
+numbered p d x = refl

@@ -39,7 +39,7 @@ use Rattle.document.proofs.Arrays.{
   coupled-ext,
 }
 use Rattle.demands.specs.Refusals.{encodeSentences}
-use Rattle.demands.specs.Encoding.{DocumentArray}
+use Rattle.demands.specs.Encoding.{DocumentArray, OneArray, Demand2Encode}
 use Rattle.demands.proofs.Demand1.{tried-done, done-accepted, demand-1-encode}
 
 module _ (p : Profile) where
@@ -56,19 +56,18 @@ module _ (p : Profile) where
     encoded-is = record {
       base = baseAt p d;
       coefficients = λ b i. row-word p d b i .poly .coefficients;
-      size = laid-length p n (storedAt d);
-      small = laid-small p n (storedAt d);
+      stored = record { size = laid-length p n (storedAt d); bytes-only = laid-small p n (storedAt d) };
       degree = λ b i l r. row-word p d b i .poly .degree;
       values = λ b i j l r h. row-word p d b i .at j h ∙ row-word p d b i .poly .value (byte j);
       given = λ b i j l r h. row-data p d b i acc j h;
-      diagonal = λ b i j l r h e. stored b i j l r h ∙ coupled-diagonal p (baseAt p d b) j i e;
-      upper = λ b i j l r h e. stored b i j l r h ∙ coupled-upper p (baseAt p d b) j i e;
-      lower = λ b i j l r h e. stored b i j l r h ∙ coupled-lower p (baseAt p d b) j i e;
+      diagonal = λ b i j l r h e. holds b i j l r h ∙ coupled-diagonal p (baseAt p d b) j i e;
+      upper = λ b i j l r h e. holds b i j l r h ∙ coupled-upper p (baseAt p d b) j i e;
+      lower = λ b i j l r h e. holds b i j l r h ∙ coupled-lower p (baseAt p d b) j i e;
     }
       where
-        stored : (b i j : ℕ) → b < S → i < A → j < n
+        holds : (b i j : ℕ) → b < S → i < A → j < n
             → byteAt p (laidOut p n (storedAt d)) b (place j i) ≡ storedAt d b (place j i)
-        stored b i j l r h = laid-byte p n (storedAt d) b j i l h r
+        holds b i j l r h = laid-byte p n (storedAt d) b j i l h r
 
     module _ (x : List ℕ) (D : DocumentArray p d x) where
       -- the data fix the base symbols
@@ -102,7 +101,7 @@ module _ (p : Profile) where
       -- No other list is.
       pub encoded-only : x ≡ encoded p d
       unfolding encoded
-      encoded-only = laid-bytes p n x (D .size) (D .small) ∙ laid-ext p n (byteAt p x) (storedAt d) same
+      encoded-only = laid-bytes p n x (D .stored .size) (D .stored .bytes-only) ∙ laid-ext p n (byteAt p x) (storedAt d) same
         where
           same : (b j i : ℕ) → b < S → j < n → i < A → byteAt p x b (place j i) ≡ storedAt d b (place j i)
           same b j i l h r =
@@ -113,9 +112,12 @@ module _ (p : Profile) where
               partner : Within p (partnerOf A (place j i))
               partner = partner-within p acc (place j i) (record { node = h; row = r })
 
--- 'Encoding writes the array that document 01 defines.' 'On success the answer is 0, with .. 0 otherwise.'
-pub demand-2-encode : (p : Numbers) (d x : List ℕ) (v : ℕ) → encodeOf p d x .0 ≡ Done v
-    → (v ≡ 0) × DocumentArray (profileOf p) d (encodeOf p d x .1)
+-- Two such arrays are one.
+pub one-array : OneArray
+one-array p acc d x y X Y = encoded-only p acc d x X ∙ sym (encoded-only p acc d y Y)
+
+-- Encoding writes it.
+pub demand-2-encode : Demand2Encode
 unfolding encodeOf encodeSentences
 demand-2-encode p d x v e = (cc done, rw done (encoded-is (profileOf p) accepted d))
   where

@@ -1,6 +1,8 @@
 -- Demand 2, first sentence: 'Encoding writes the array that document 01 defines.'
 --
 -- DocumentArray p d x : x is the array that document 01 defines for the data d, in the profile p
+-- OneArray            : it is the only one
+-- Demand2Encode       : encoding that is not refused writes it
 --
 -- In it b is a byte offset of a strip, i a row, j a node, j % A its local column l. The words it uses:
 -- byteAt p x b q : byte b of the strip at the place q of the array or data x
@@ -11,14 +13,17 @@
 use mathlib.Core.Path.{_≡_}
 use mathlib.Core.List.{List}
 use Prim.Native.Nat.{ℕ, _*_, _%_, _≤_, _<_}
-use lib.ListN.{length, getD}
+use lib.ListN.{length}
 use Rattle.algebra.specs.Field.{Field}
 use Rattle.algebra.specs.Polynomial.{eval}
+use Rattle.document.specs.declared.Numbers.{Numbers}
 use Rattle.document.specs.declared.Profile.{Profile}
 use Rattle.document.specs.declared.Place.{Place}
+use Rattle.document.specs.declared.Answer.the-variants.{Done}
 use Rattle.document.specs.Places.{place, partnerOf}
 use Rattle.document.specs.Bytes.{bytes, Byte, byte}
-use Rattle.document.specs.Encoding.{byteAt}
+use Rattle.document.specs.Profile.{Accepted, profileOf}
+use Rattle.document.specs.Encoding.{byteAt, Stored, encodeOf}
 
 infixl 65 _⊕_
 infixl 70 _⊗_
@@ -34,8 +39,7 @@ module _ (p : Profile) (d x : List ℕ) where
     -- The coefficients of one polynomial for each byte offset and row.
     pub coefficients : ℕ → ℕ → List Byte
     -- 'A stored array is any nAS bytes.'
-    pub size : length x ≡ n * A * S
-    pub small : (e : ℕ) → e < length x → getD x e 0 < 256
+    pub stored : Stored p x
     -- 'One row of base symbols .. is the list of values, at the points 0..n-1, of a polynomial of degree below k.'
     pub degree : (b i : ℕ) → b < S → i < A → length (coefficients b i) ≤ k
     pub values : (b i j : ℕ) → b < S → i < A → j < n → base b (place j i) ≡ eval bytes (coefficients b i) (byte j)
@@ -49,3 +53,13 @@ module _ (p : Profile) (d x : List ℕ) where
     -- 'a(i,j) + t·a(partner) where i > l.'
     pub lower : (b i j : ℕ) → b < S → i < A → j < n → j % A < i
         → byteAt p x b (place j i) ≡ base b (place j i) ⊕ byte t ⊗ base b (partnerOf A (place j i))
+
+-- For an accepted profile, two arrays of the same data that are as document 01 says are the same array.
+abbrev pub OneArray : Type 0
+OneArray = (p : Profile) → Accepted p → (d x y : List ℕ) → DocumentArray p d x → DocumentArray p d y → x ≡ y
+
+-- 'Encoding writes the array that document 01 defines.' 'On success the answer is 0, with .. 0 otherwise.'
+abbrev pub Demand2Encode : Type 0
+Demand2Encode =
+    (p : Numbers) (d x : List ℕ) (v : ℕ) → encodeOf p d x .0 ≡ Done v
+    → (v ≡ 0) × DocumentArray (profileOf p) d (encodeOf p d x .1)

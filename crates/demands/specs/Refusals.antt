@@ -7,9 +7,13 @@
 -- Decided tests table                 : the tests that a call makes decide the sentences of the table, line by line
 -- profileSentences p                  : the lines for a profile's numbers
 -- encodeSentences p d x               : the table for encoding the data d into x
+-- Numbered                            : its lines are document 01's numbers, in their order
+-- Demand1Encode                       : encoding refuses as its table says
+--
+-- That every entry point answers: it has no `requires`, and each function of the store is proved to end without a fault.
 use mathlib.Core.Path.{_≡_}
 use mathlib.Core.Logic.{_↔_, _⊎_}
-use mathlib.Core.List.{List, [], _∷_, _++_}
+use mathlib.Core.List.{List, [], _∷_, _++_, map}
 use Prim.Native.Nat.{ℕ, _*_, _≤_, _<_}
 use lib.ListN.{length}
 use Rattle.document.specs.declared.Numbers.{Numbers}
@@ -17,8 +21,9 @@ use Rattle.document.specs.declared.Refusal.{Refusal}
 use Rattle.document.specs.declared.Refusal.the-variants.{Shape, Constant, StripLength, BufferLength}
 use Rattle.document.specs.declared.Answer.{Answer}
 use Rattle.document.specs.declared.Answer.the-variants.{Refused}
-use Rattle.document.specs.Refusals.{Test, Decides}
+use Rattle.document.specs.Refusals.{numberOf, Test, Decides}
 use Rattle.document.specs.Profile.{ShapeAccepted}
+use Rattle.document.specs.Encoding.{encodeOf}
 
 -- One line of the table 'Refusals by number, in the order they are tried', for one call.
 pub record Sentence : Type 1 where
@@ -43,7 +48,7 @@ pub data Decided : List Test → List Sentence → Type 1 where
   line : {test : Test} {s : Sentence} {tests : List Test} {table : List Sentence} → test .refusal ≡ s .refusal
       → Decides (test .holds) (s .says) → Decided tests table → Decided (test ∷ tests) (s ∷ table)
 
--- '1: n, k or A not accepted. 2: t not in 2..255. 3: S is 0 or above 512.'
+-- 1: 'n, k or A not accepted'. 2: 't not in 2..255'. 3: 'S is 0 or above 512'.
 unfoldable pub profileSentences : Numbers → List Sentence
 profileSentences p =
     record { refusal = Shape; says = ShapeAccepted (p .n) (p .k) (p .a) → ⊥ }
@@ -51,7 +56,7 @@ profileSentences p =
     ∷ record { refusal = StripLength; says = (p .s ≡ 0) ⊎ (512 < p .s) }
     ∷ []
 
--- '5: a lent buffer .. has the wrong length': data have kAS bytes, an array nAS.
+-- 5: 'a lent buffer .. has the wrong length': data have kAS bytes, an array nAS.
 unfoldable pub encodeSentences : Numbers → List ℕ → List ℕ → List Sentence
 encodeSentences p d x =
     profileSentences p
@@ -60,3 +65,11 @@ encodeSentences p d x =
       says = (length d ≡ p .k * p .a * p .s) × (length x ≡ p .n * p .a * p .s) → ⊥;
     }
     ∷ [])
+
+-- The refusals that encoding can give, by number, in the order they are tried.
+abbrev pub Numbered : Type 0
+Numbered = (p : Numbers) (d x : List ℕ) → map (λ s. numberOf (s .refusal)) (encodeSentences p d x) ≡ (1 ∷ 2 ∷ 3 ∷ 5 ∷ [])
+
+-- Demand 1 for encoding, whatever the numbers and the bytes.
+abbrev pub Demand1Encode : Type 1
+Demand1Encode = (p : Numbers) (d x : List ℕ) → RefusesExactly (encodeSentences p d x) x (encodeOf p d x)

@@ -1,15 +1,15 @@
 -- The tests of a profile decide whether its numbers are accepted.
 use mathlib.Core.Path.{_≡_, refl, ap}
-use mathlib.Core.Bool.{Bool, true, false, _&&_, not, false≢true}
+use mathlib.Core.Bool.{Bool, true, false, not, false≢true}
 use mathlib.Core.List.{List, [], _∷_, _++_}
 use Prim.Native.Nat.{ℕ, _-_, _%_, _≤_}
 use native.Mathlib.Omega.{arith}
-use lib.Dec.{leb, ltb, eqb}
+use lib.Dec.{leb}
 use Rattle.document.specs.declared.Numbers.{Numbers}
 use Rattle.document.specs.declared.Profile.{Profile}
 use Rattle.document.specs.declared.Refusal.{Refusal}
 use Rattle.document.specs.declared.Refusal.the-variants.{Shape, Constant, StripLength}
-use Rattle.document.specs.declared.Checked.the-variants.{Accepted as passes, Rejected}
+use Rattle.document.specs.declared.Checked.the-variants.{Passed, Rejected}
 use Rattle.document.specs.Refusals.{Test, tried, Decides}
 use Rattle.document.specs.Profile.{
   maxNodes,
@@ -79,7 +79,7 @@ module _ (p : Numbers) where
       unfolding checkedOf profileTests tried
       strip-refused e = simp (shape, constant, e)
 
-      pub none-refused : stripAccepted (p .s) ≡ true → checkedOf p ≡ passes (profileOf p)
+      pub none-refused : stripAccepted (p .s) ≡ true → checkedOf p ≡ Passed (profileOf p)
       unfolding checkedOf profileTests tried
       none-refused e = simp (shape, constant, e)
 
@@ -94,22 +94,22 @@ outcomes shape constant strip =
 
 module _ (p : Numbers) where
   -- An accepted profile has the numbers handed in.
-  pub accepted : (q : Profile) → checkedOf p ≡ passes q → (q ≡ profileOf p) × Accepted q
+  pub accepted : (q : Profile) → checkedOf p ≡ Passed q → (q ≡ profileOf p) × Accepted q
   unfolding checkedOf profileTests tried
   accepted q e =
       go (shapeAccepted (p .n) (p .k) (p .a)) (decides-shape (p .n) (p .k) (p .a)) (constantAccepted (p .t))
       (decides-constant (p .t)) (stripAccepted (p .s)) (decides-strip (p .s)) e
     where
-      differ : (r : Refusal) → Rejected r ≡ passes q → ⊥
+      differ : (r : Refusal) → Rejected r ≡ Passed q → ⊥
       differ r d = let z : _≡_ {A = ℕ} 0 1 = cc in omega arith
 
-      same : passes (profileOf p) ≡ passes q → q ≡ profileOf p
+      same : Passed (profileOf p) ≡ Passed q → q ≡ profileOf p
       same d = cc
 
       go : (shape : Bool) → Decides shape (ShapeAccepted (p .n) (p .k) (p .a))
           → (constant : Bool) → Decides constant ((2 ≤ p .t) × (p .t ≤ 255))
           → (strip : Bool) → Decides strip ((1 ≤ p .s) × (p .s ≤ maxStrip))
-          → tried (outcomes shape constant strip) Rejected (passes (profileOf p)) ≡ passes q
+          → tried (outcomes shape constant strip) Rejected (Passed (profileOf p)) ≡ Passed q
           → (q ≡ profileOf p) × Accepted q
       go false A b B c C d = absurd (differ Shape d)
       go true A false B c C d = absurd (differ Constant d)
@@ -120,7 +120,7 @@ module _ (p : Numbers) where
             rw e (record {
               shape = A .0 refl;
               above-one = B .0 refl .0;
-              byte = B .0 refl .1;
+              one-byte = B .0 refl .1;
               some-bytes = C .0 refl .0;
               short = C .0 refl .1;
             }),
@@ -134,24 +134,24 @@ module _ (p : Numbers) where
         go (shapeAccepted (p .n) (p .k) (p .a)) (constantAccepted (p .t)) (stripAccepted (p .s)) e
       where
         go : (shape constant strip : Bool)
-            → tried (outcomes shape constant strip) Rejected (passes (profileOf p)) ≡ Rejected r
+            → tried (outcomes shape constant strip) Rejected (Passed (profileOf p)) ≡ Rejected r
             → tried (outcomes shape constant strip ++ tests) refuse x ≡ refuse r
         go false b c d = let s : Shape ≡ r = cc in ap refuse s
         go true false c d = let s : Constant ≡ r = cc in ap refuse s
         go true true false d = let s : StripLength ≡ r = cc in ap refuse s
         go true true true d = absurd (let z : _≡_ {A = ℕ} 0 1 = cc in omega arith)
 
-    pub tried-accepted : (q : Profile) → checkedOf p ≡ passes q
+    pub tried-accepted : (q : Profile) → checkedOf p ≡ Passed q
         → tried (profileTests p ++ tests) refuse x ≡ tried tests refuse x
     unfolding checkedOf profileTests tried
     tried-accepted q e =
         go (shapeAccepted (p .n) (p .k) (p .a)) (constantAccepted (p .t)) (stripAccepted (p .s)) e
       where
-        differ : (r : Refusal) → Rejected r ≡ passes q → ⊥
+        differ : (r : Refusal) → Rejected r ≡ Passed q → ⊥
         differ r d = let z : _≡_ {A = ℕ} 0 1 = cc in omega arith
 
         go : (shape constant strip : Bool)
-            → tried (outcomes shape constant strip) Rejected (passes (profileOf p)) ≡ passes q
+            → tried (outcomes shape constant strip) Rejected (Passed (profileOf p)) ≡ Passed q
             → tried (outcomes shape constant strip ++ tests) refuse x ≡ tried tests refuse x
         go false b c d = absurd (differ Shape d)
         go true false c d = absurd (differ Constant d)

@@ -1,17 +1,27 @@
--- 'The field and the row code', 'Coupling': the array that document 01 defines, at each byte offset b of a strip on its own.
+-- 'The field and the row code', 'Coupling': the array that document 01 defines. Each rule holds at each byte offset b of
+-- a strip on its own. demands/specs/Encoding.antt has the same array with a polynomial in place of Lagrange's formula, and
+-- the two are shown to be one.
 --
--- start q         : where the strip of the place q starts in memory
--- byteAt x b q    : byte b of that strip, in data or in an array x
--- baseAt d b q    : the base symbol of the data d at the place q
--- constantOf i l  : the coupling constant of the lower strip at row i, local column l
--- coupledAt a q   : what is stored at q where the base symbols are a
--- laidOut m f     : m nodes in memory's order, with f b q at byte b of the place q
--- columnOf f j    : the column of node j among them
--- encoded d       : the encoded array of the data d
--- encodeOf p d x  : encoding d into x: the answer, and what x holds then
-use mathlib.Core.Bool.{Bool, _&&_, not}
+-- start p q         : where the strip of the place q starts in memory
+-- byteAt p x b q    : byte b of that strip, in data or in an array x
+-- baseAt p d b q    : the base symbol of the data d at the place q
+-- constantOf p i l  : the coupling constant of the lower strip at row i, local column l
+-- coupledAt p a q   : what is stored at q where the base symbols are a
+-- laidOut p m f     : m nodes in memory's order, with f b q at byte b of the place q
+-- columnOf p f j    : the column of node j among them
+-- Stored p x        : x is a stored array
+-- encoded p d       : the array that the data d give
+-- plain p d         : the base symbols of the data d, not coupled
+-- coupled p x       : the bytes of x taken for base symbols, and coupled
+-- encodeTests p d x : the refusals of encoding, in their order
+-- encodeOf p d x    : encoding d into x: the answer, and what x holds then
+--
+-- From the algebra: sum K k f adds f 0 to f (k-1); weight K k x m z is the product over i < k, i not m, of
+-- (z + x i) / (x m + x i); pick is a choice by a decision.
+use mathlib.Core.Path.{_≡_}
+use mathlib.Core.Bool.{_&&_, not}
 use mathlib.Core.List.{List, [], _∷_, _++_}
-use Prim.Native.Nat.{ℕ, _+_, _*_, _/_, _%_}
+use Prim.Native.Nat.{ℕ, _+_, _*_, _/_, _%_, _<_}
 use native.Mathlib.Decide.{ℕ-discrete, decLt}
 use lib.Dec.{eqb}
 use lib.ListN.{length, getD}
@@ -51,7 +61,7 @@ module _ (p : Profile) where
   unfoldable pub baseAt : List ℕ → ℕ → Place → Byte
   baseAt d b q = sum bytes k (λ m. byteAt d b (place m (q .row .0)) ⊗ weight bytes k byte m (byte (q .node .0)))
 
-  -- 't (the coupling constant θ)', the same for all pairs
+  -- 't (the coupling constant θ)': one for all pairs, whatever the row and the local column.
   unfoldable pub constantOf : ℕ → ℕ → Byte
   constantOf i l = byte t
 
@@ -63,25 +73,29 @@ module _ (p : Profile) where
       pick (ℕ-discrete i l) (a q)
       (pick (decLt i l) (a q ⊕ a (partnerOf A q)) (a q ⊕ constantOf i l ⊗ a (partnerOf A q)))
 
-  -- Strip z in memory is that of node z div A, row z mod A.
+  -- Byte e = (jA+i)S + b: so b is e mod S, and strip e div S is that of node (e div S) div A, row (e div S) mod A.
   unfoldable pub laidOut : ℕ → (ℕ → Place → Byte) → List ℕ
   laidOut m f = listed (m * A * S) (λ e. number (f (e % S) (place (e / S / A) (e / S % A))))
 
-  -- 'A node's column is its A strips, row 0 first.'
+  -- 'a node's column is its A strips, row 0 first'
   unfoldable pub columnOf : (ℕ → Place → Byte) → ℕ → List ℕ
   columnOf f j = listed (A * S) (λ o. number (f (o % S) (place j (o / S))))
 
-  -- The rows of base symbols, not coupled, in memory's order.
+  -- 'A stored array is any nAS bytes.'
+  pub record Stored (x : List ℕ) : Type 0 where
+    pub size : length x ≡ n * A * S
+    pub bytes-only : (e : ℕ) → e < length x → getD x e 0 < 256
+
+  -- 'An encoded array is a stored array that some data give': the one that the data d give.
+  unfoldable pub encoded : List ℕ → List ℕ
+  encoded d = laidOut n (λ b. coupledAt (baseAt d b))
+
+  -- The two steps of encoding: the base symbols, and an array of any bytes coupled.
   unfoldable pub plain : List ℕ → List ℕ
   plain d = laidOut n (baseAt d)
 
-  -- An array of any bytes taken for base symbols, and coupled.
   unfoldable pub coupled : List ℕ → List ℕ
   coupled x = laidOut n (λ b. coupledAt (byteAt x b))
-
-  -- 'An encoded array is a stored array that some data give.'
-  unfoldable pub encoded : List ℕ → List ℕ
-  encoded d = laidOut n (λ b. coupledAt (baseAt d b))
 
 -- The refusals of encoding: 1, 2, 3, then 5 for data not of kAS bytes or an array not of nAS bytes.
 unfoldable pub encodeTests : Numbers → List ℕ → List ℕ → List Test

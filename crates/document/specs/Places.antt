@@ -7,7 +7,6 @@
 -- Within p q      : the place q has a node and a row of the profile p
 use Prim.Native.Nat.{ℕ, _+_, _*_, _/_, _%_, _<_}
 use Rattle.document.specs.declared.Node.{Node}
-use Rattle.document.specs.declared.Row.{Row}
 use Rattle.document.specs.declared.Place.{Place}
 use Rattle.document.specs.declared.Profile.{Profile}
 

@@ -1,9 +1,13 @@
 -- 'Profile numbers'
 --
 -- maxNodes, maxRows, maxStrip : the ceilings
+-- ShapeAccepted n k A         : n, k and A are accepted
 -- Accepted p                  : p is an accepted profile
--- shapeAccepted n k A         : n, k and A are accepted, as a test
+-- shapeAccepted n k A         : the test whether n, k and A are accepted
+-- constantAccepted t          : the test whether t is
+-- stripAccepted S             : the test whether S is
 -- profileTests p              : the refusals 1, 2 and 3 in their order
+-- profileOf p                 : the numbers p as a profile
 -- checkedOf p                 : the profile with the numbers p, or its first refusal
 use mathlib.Core.Path.{_≡_}
 use mathlib.Core.Bool.{Bool, _&&_, not}
@@ -14,7 +18,7 @@ use Rattle.document.specs.declared.Numbers.{Numbers}
 use Rattle.document.specs.declared.Profile.{Profile}
 use Rattle.document.specs.declared.Refusal.the-variants.{Shape, Constant, StripLength}
 use Rattle.document.specs.declared.Checked.{Checked}
-use Rattle.document.specs.declared.Checked.the-variants.{Accepted as passes, Rejected}
+use Rattle.document.specs.declared.Checked.the-variants.{Passed, Rejected}
 use Rattle.document.specs.Refusals.{Test, tried}
 
 -- 'The ceilings are 24 nodes, 4 rows and 512 bytes of strip'
@@ -41,7 +45,7 @@ pub record ShapeAccepted (n k A : ℕ) : Type 0 where
 pub record Accepted (p : Profile) : Type 0 where
   pub shape : ShapeAccepted (p .n) (p .k) (p .a)
   pub above-one : 2 ≤ p .t
-  pub byte : p .t ≤ 255
+  pub one-byte : p .t ≤ 255
   pub some-bytes : 1 ≤ p .s
   pub short : p .s ≤ maxStrip
 
@@ -68,4 +72,4 @@ abbrev pub profileOf : Numbers → Profile
 profileOf p = record { n = p .n; k = p .k; a = p .a; t = p .t; s = p .s }
 
 unfoldable pub checkedOf : Numbers → Checked
-checkedOf p = tried (profileTests p) Rejected (passes (profileOf p))
+checkedOf p = tried (profileTests p) Rejected (Passed (profileOf p))

@@ -17,7 +17,7 @@ use Rattle.document.specs.declared.Refusal.the-variants.{
   Shape,
   Constant,
   StripLength,
-  NodeNumber,
+  OutOfRange,
   BufferLength,
   BundleForm,
   BundleHead,
@@ -33,7 +33,7 @@ unfoldable pub numberOf : Refusal → ℕ
 numberOf Shape = 1
 numberOf Constant = 2
 numberOf StripLength = 3
-numberOf NodeNumber = 4
+numberOf OutOfRange = 4
 numberOf BufferLength = 5
 numberOf BundleForm = 6
 numberOf BundleHead = 7
@@ -46,7 +46,7 @@ unfoldable pub indexOf : Refusal → ℕ
 indexOf Shape = 0
 indexOf Constant = 0
 indexOf StripLength = 0
-indexOf NodeNumber = 0
+indexOf OutOfRange = 0
 indexOf BufferLength = 0
 indexOf BundleForm = 0
 indexOf BundleHead = 0

@@ -17,7 +17,8 @@ pub struct Numbers {
     pub s: usize,
 }
 
-// An accepted profile: nodes, data nodes, rows, coupling constant, strip length in bytes.
+// The same as a profile: nodes, data nodes, rows, coupling constant, strip length in bytes. `Profile::new` hands out
+// accepted ones only; a function that is given one asks that it is `Accepted`.
 pub struct Profile {
     pub n: usize,
     pub k: usize,
@@ -37,17 +38,27 @@ pub struct Place {
     pub row: Row,
 }
 
-// Why a call is refused; `numberOf` in specs/ gives document 01's number for each.
+// Why a call is refused, in the order of document 01's table; `numberOf` in specs/ gives the number.
 pub enum Refusal {
+    // 1: n, k or A not accepted
     Shape,
+    // 2: t not in 2..255
     Constant,
+    // 3: S is 0 or above 512
     StripLength,
-    NodeNumber,
+    // 4: lost node, node list or survey start
+    OutOfRange,
+    // 5: a lent buffer other than the bundle to read has the wrong length
     BufferLength,
+    // 6: the bundle's total length, tags or field lengths
     BundleForm,
+    // 7: the content of field 01 or 02
     BundleHead,
+    // 8: a strip's place, with the strip's index
     Misplaced(usize),
+    // 9: a strip's scenario, with the strip's index
     Stale(usize),
+    // 10: two different data give equal columns
     Ambiguous,
 }
 
@@ -60,7 +71,7 @@ impl Refusal {
             Refusal::Shape => 1,
             Refusal::Constant => 2,
             Refusal::StripLength => 3,
-            Refusal::NodeNumber => 4,
+            Refusal::OutOfRange => 4,
             Refusal::BufferLength => 5,
             Refusal::BundleForm => 6,
             Refusal::BundleHead => 7,
@@ -80,7 +91,7 @@ impl Refusal {
             Refusal::Shape => 0,
             Refusal::Constant => 0,
             Refusal::StripLength => 0,
-            Refusal::NodeNumber => 0,
+            Refusal::OutOfRange => 0,
             Refusal::BufferLength => 0,
             Refusal::BundleForm => 0,
             Refusal::BundleHead => 0,
@@ -89,7 +100,7 @@ impl Refusal {
     }
 }
 
-// The answer of every call but the survey.
+// The answer of a call: done, with its value, or refused.
 pub enum Answer {
     Done(usize),
     Refused(Refusal),
@@ -97,7 +108,7 @@ pub enum Answer {
 
 // The outcome of looking at a profile's numbers.
 pub enum Checked {
-    Accepted(Profile),
+    Passed(Profile),
     Rejected(Refusal),
 }
 
@@ -160,7 +171,7 @@ impl Profile {
         if Profile::MAX_STRIP < s {
             return Checked::Rejected(Refusal::StripLength);
         }
-        Checked::Accepted(Profile {
+        Checked::Passed(Profile {
             n: p.n,
             k: p.k,
             a: p.a,

@@ -1,6 +1,6 @@
 -- The answer of encoding, by what is found on the way.
 use mathlib.Core.Path.{_≡_, sym, ap, ap₂, _∙_}
-use mathlib.Core.Bool.{Bool, true, false, _&&_}
+use mathlib.Core.Bool.{Bool, false, _&&_}
 use mathlib.Core.List.{List}
 use Prim.Native.Nat.{ℕ, _*_}
 use lib.Dec.{eqb}
@@ -11,7 +11,7 @@ use Rattle.document.specs.declared.Profile.{Profile}
 use Rattle.document.specs.declared.Refusal.{Refusal}
 use Rattle.document.specs.declared.Refusal.the-variants.{BufferLength}
 use Rattle.document.specs.declared.Answer.the-variants.{Done, Refused}
-use Rattle.document.specs.declared.Checked.the-variants.{Accepted as passes, Rejected}
+use Rattle.document.specs.declared.Checked.the-variants.{Passed, Rejected}
 use Rattle.document.specs.Refusals.{tried}
 use Rattle.document.specs.Profile.{profileOf, checkedOf}
 use Rattle.document.specs.Encoding.{encoded, plain, coupled, encodeTests, encodeOf}
@@ -23,7 +23,7 @@ module _ (p : Numbers) (d x : List ℕ) where
   unfolding encodeOf encodeTests
   profile-refused r e = sym (tried-rejected p _ _ _ r e)
 
-  module _ (q : Profile) (e : checkedOf p ≡ passes q) where
+  module _ (q : Profile) (e : checkedOf p ≡ Passed q) where
     same : q ≡ profileOf p
     same = accepted p q e .0
 

@@ -1,61 +1,31 @@
 -- The rows of base symbols: the data's columns are themselves, a parity column is a sum of weighted data columns.
-use mathlib.Core.Path.{_≡_, refl, sym, ap, ap₂, _∙_}
-use mathlib.Core.List.{List, [], _∷_, _++_, append-assoc}
-use Prim.Native.Nat.{ℕ, zero, suc, _+_, _*_, _/_, _%_, _≤_, _<_}
-use native.Mathlib.Nat.{div-add-mod', div-lt-iff-lt-mul, zero-mul, add-zero, suc-mul, add-mul, mul-assoc}
+use mathlib.Core.Path.{_≡_, sym, ap, ap₂, _∙_}
+use mathlib.Core.List.{List, _++_, append-assoc}
+use Prim.Native.Nat.{ℕ, _+_, _*_, _/_, _%_, _≤_, _<_}
+use native.Mathlib.Nat.{div-add-mod', div-lt-iff-lt-mul, add-mul, mul-assoc}
 use native.Mathlib.Numerals.{add-one}
 use native.Mathlib.Omega.{arith}
 use lib.ListN.{length, getD, take}
 use lib.Seq.{take-at, take-all}
 use Rattle.lists.specs.Listed.{listed}
 use Rattle.lists.proofs.Listed.{listed-length, listed-at, listed-ext, listed-take}
-use Rattle.gf256.specs.Field.{_⊕_, _⊗_}
-use Rattle.gf256.proofs.Ring as R
-use Rattle.algebra.specs.Field.{Field}
 use Rattle.algebra.specs.Sum.{sum}
 use Rattle.algebra.specs.Weight.{weight}
-use Rattle.algebra.proofs.Field as F
 use Rattle.algebra.proofs.Sum.{sum-ext}
-use Rattle.strips.specs.Strips.{sumOf, combinationOf}
+use Rattle.strips.specs.Strips.{combinationOf}
 use Rattle.document.specs.declared.Profile.{Profile}
 use Rattle.document.specs.declared.Place.{Place}
 use Rattle.document.specs.Profile.{Accepted}
-use Rattle.document.specs.Places.{place}
 use Rattle.document.specs.Bytes.{bytes, Byte, byte, number}
 use Rattle.document.specs.Encoding.{start, byteAt, baseAt, laidOut, columnOf}
-use Rattle.document.proofs.Bytes.{number-byte, byte-number, number-zero, number-add, number-mul, byte-left, byte-right}
+use Rattle.document.proofs.Bytes.{number-byte, byte-number}
 use Rattle.coefficients.specs.Weights.{Different, Outside, points, weightsOf}
 use Rattle.coefficients.proofs.Lagrange.{weights-length, weights-at}
-use Rattle.coefficients.proofs.Products.{weight-ext}
+use Rattle.coefficients.proofs.Combination.{sum-bytes}
+use Rattle.algebra.proofs.Weight.{weight-ext}
 use Rattle.encode.specs.Steps.{dataNodes}
 use Rattle.document.proofs.Rows.{row-data}
 use Rattle.document.proofs.Arrays.{laid-length, laid-only, laid-next}
-
--- a sum, the first term apart
-sum-front : (K : Field) (n : ℕ) (f : ℕ → K .carrier) → sum K (suc n) f ≡ K .add (f 0) (sum K n (λ i. f (suc i)))
-unfolding sum
-sum-front K zero f = K .add-comm (K .𝟘) (f 0)
-sum-front K (suc n) f =
-    ap (λ x. K .add x (f (suc n))) (sum-front K n f) ∙ K .add-assoc (f 0) (sum K n (λ i. f (suc i))) (f (suc n))
-
--- the sum that `combine` makes at a byte is a sum of bytes
-pub sum-bytes : (ws src : List ℕ) (at stride : ℕ)
-    → sumOf ws src at stride
-    ≡ number (sum bytes (length ws) (λ q. bytes .mul (byte (getD src (at + q * stride) 0)) (byte (getD ws q 0))))
-unfolding sumOf sum
-sum-bytes [] src at stride = sym number-zero
-sum-bytes (w ∷ ws) src at stride =
-    ap₂ _⊕_ first (sum-bytes ws src (at + stride) stride ∙ ap number (sum-ext bytes (length ws) (λ q l. ap (λ (e : ℕ). bytes .mul (byte (getD src e 0)) (byte (getD ws q 0))) (omega (arith, suc-mul q stride)))))
-    ∙ sym (number-add _ _) ∙ ap number (sym (sum-front bytes (length ws) term))
-  where
-    term : ℕ → Byte
-    term q = bytes .mul (byte (getD src (at + q * stride) 0)) (byte (getD (w ∷ ws) q 0))
-
-    first : w ⊗ getD src at 0 ≡ number (term 0)
-    first =
-        R.mul-comm w (getD src at 0) ∙ sym (byte-right (getD src at 0) w) ∙ sym (byte-left (getD src at 0) (number (byte w)))
-        ∙ ap (λ (e : ℕ). number (byte (getD src e 0)) ⊗ number (byte w)) (sym (ap (λ (e : ℕ). at + e) (zero-mul stride) ∙ add-zero at))
-        ∙ sym (number-mul _ _)
 
 module _ (p : Profile) (d : List ℕ) where
   open Profile p using (n, k, a as A, s as S)

@@ -129,7 +129,7 @@ pub fn encode(p: Numbers, input: &[u8], array: &mut [u8]) -> Answer
     let checked = Profile::new(p);
     match checked {
         Checked::Rejected(r) => Answer::Refused(r),
-        Checked::Accepted(q) => {
+        Checked::Passed(q) => {
             if input.len() != q.k * q.a * q.s {
                 return Answer::Refused(Refusal::BufferLength);
             }

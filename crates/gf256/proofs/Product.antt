@@ -9,11 +9,11 @@ use lib.Arith.{lt-one}
 use lib.Bits.{differ}
 use lib.Dec.{T, eqb, eqb→eq, lit<}
 use lib.Pow.{pow-pos}
-use Rattle.gf256.specs.Field.{_⊕_, _⊗_, double, reduced, digitProduct}
+use Rattle.gf256.specs.Field.{_⊕_, _⊗_, double, reduced, bitProduct}
 use Rattle.gf256.proofs.Test.{every, at}
 use Rattle.gf256.proofs.Xor as X
 
--- ---- functions that keep sums and see the low eight digits alone
+-- ---- functions that keep sums and see the low eight bits alone
 record Linear (f : ℕ → ℕ) : Type 0 where
   pub sum : (a b : ℕ) → f (a ⊕ b) ≡ f a ⊕ f b
   pub low : (a : ℕ) → f (a % 256) ≡ f a
@@ -27,24 +27,24 @@ compose : (f g : ℕ → ℕ) → Linear f → Linear g → Linear (λ a. f (g a
 compose f g l m = record { sum = λ a b. ap f (m .sum a b) ∙ l .sum (g a) (g b); low = λ a. ap f (m .low a) }
 
 module _ (f g : ℕ → ℕ) (l : Linear f) (m : Linear g) where
-  one-digit : (k d : ℕ) → d < 2 → f (2 ^ k) ≡ g (2 ^ k) → f (d * 2 ^ k) ≡ g (d * 2 ^ k)
-  one-digit k zero h e = rw N.zero-mul (linear-zero l ∙ sym (linear-zero m))
-  one-digit k (suc zero) h e = rw N.one-mul e
-  one-digit k (suc (suc d)) h e = omega arith
+  one-bit : (k d : ℕ) → d < 2 → f (2 ^ k) ≡ g (2 ^ k) → f (d * 2 ^ k) ≡ g (d * 2 ^ k)
+  one-bit k zero h e = rw N.zero-mul (linear-zero l ∙ sym (linear-zero m))
+  one-bit k (suc zero) h e = rw N.one-mul e
+  one-bit k (suc (suc d)) h e = omega arith
 
-  on-digits : (k : ℕ) → ((i : ℕ) → i < k → f (2 ^ i) ≡ g (2 ^ i)) → (a : ℕ) → a < 2 ^ k → f a ≡ g a
-  on-digits zero e a h = ap f (lt-one h) ∙ linear-zero l ∙ sym (linear-zero m) ∙ ap g (sym (lt-one h))
-  on-digits (suc k) e a h =
+  on-bits : (k : ℕ) → ((i : ℕ) → i < k → f (2 ^ i) ≡ g (2 ^ i)) → (a : ℕ) → a < 2 ^ k → f a ≡ g a
+  on-bits zero e a h = ap f (lt-one h) ∙ linear-zero l ∙ sym (linear-zero m) ∙ ap g (sym (lt-one h))
+  on-bits (suc k) e a h =
       ap f (X.parts k a) ∙ l .sum (a / 2 ^ k * 2 ^ k) (a % 2 ^ k)
       ∙ ap₂ _⊕_
-      (one-digit k (a / 2 ^ k)
+      (one-bit k (a / 2 ^ k)
       (N.div-lt-iff-lt-mul (pow-pos k) .1 (rw (N.pow-suc, N.mul-comm) at h)) (e k (N.le-refl (suc k))))
-      (on-digits k (λ i hi. e i (omega arith)) (a % 2 ^ k) (N.mod-lt a (pow-pos k)))
+      (on-bits k (λ i hi. e i (omega arith)) (a % 2 ^ k) (N.mod-lt a (pow-pos k)))
       ∙ sym (ap g (X.parts k a) ∙ m .sum (a / 2 ^ k * 2 ^ k) (a % 2 ^ k))
 
   -- two such functions agree if they agree at eight numbers
   agree : ((i : ℕ) → i < 8 → f (2 ^ i) ≡ g (2 ^ i)) → (a : ℕ) → f a ≡ g a
-  agree e a = sym (l .low a) ∙ on-digits 8 e (a % 256) (N.mod-lt a (lit< tt)) ∙ m .low a
+  agree e a = sym (l .low a) ∙ on-bits 8 e (a % 256) (N.mod-lt a (lit< tt)) ∙ m .low a
 
   agree-test : T (every (λ i. eqb (f (2 ^ i)) (g (2 ^ i))) 8) → (a : ℕ) → f a ≡ g a
   agree-test t = agree (λ i h. eqb→eq (f (2 ^ i)) (g (2 ^ i)) (at (λ k. eqb (f (2 ^ k)) (g (2 ^ k))) 8 t i h))
@@ -63,39 +63,39 @@ unfolding double
 double-sum a b =
     ap₂ _⊕_
     (ap (λ (x : ℕ). x % 256) (shifted-sum a b) ∙ X.mask 8 (a * 2) (b * 2))
-    (ap (λ (x : ℕ). reduced * (x % 2)) (X.shift 7 a b) ∙ X.times-digit-of-sum reduced (a / 128) (b / 128))
+    (ap (λ (x : ℕ). reduced * (x % 2)) (X.shift 7 a b) ∙ X.times-bit-of-sum reduced (a / 128) (b / 128))
     ∙ X.add-medial (a * 2 % 256) (b * 2 % 256) (reduced * (a / 128 % 2)) (reduced * (b / 128 % 2))
 
-digits-sum-left : (n a b c : ℕ) → digitProduct n (a ⊕ b) c ≡ digitProduct n a c ⊕ digitProduct n b c
-unfolding digitProduct
-digits-sum-left zero a b c = sym (X.add-self 0)
-digits-sum-left (suc n) a b c =
-    ap₂ _⊕_ (X.sum-times-digit a b c)
-    (ap (λ (x : ℕ). digitProduct n x (c / 2)) (double-sum a b) ∙ digits-sum-left n (double a) (double b) (c / 2))
-    ∙ X.add-medial (a * (c % 2)) (b * (c % 2)) (digitProduct n (double a) (c / 2)) (digitProduct n (double b) (c / 2))
+bits-sum-left : (n a b c : ℕ) → bitProduct n (a ⊕ b) c ≡ bitProduct n a c ⊕ bitProduct n b c
+unfolding bitProduct
+bits-sum-left zero a b c = sym (X.add-self 0)
+bits-sum-left (suc n) a b c =
+    ap₂ _⊕_ (X.sum-times-bit a b c)
+    (ap (λ (x : ℕ). bitProduct n x (c / 2)) (double-sum a b) ∙ bits-sum-left n (double a) (double b) (c / 2))
+    ∙ X.add-medial (a * (c % 2)) (b * (c % 2)) (bitProduct n (double a) (c / 2)) (bitProduct n (double b) (c / 2))
 
-digits-sum-right : (n a b c : ℕ) → digitProduct n a (b ⊕ c) ≡ digitProduct n a b ⊕ digitProduct n a c
-unfolding digitProduct
-digits-sum-right zero a b c = sym (X.add-self 0)
-digits-sum-right (suc n) a b c =
-    ap₂ _⊕_ (X.times-digit-of-sum a b c)
-    (ap (digitProduct n (double a)) (X.shift 1 b c) ∙ digits-sum-right n (double a) (b / 2) (c / 2))
-    ∙ X.add-medial (a * (b % 2)) (a * (c % 2)) (digitProduct n (double a) (b / 2)) (digitProduct n (double a) (c / 2))
+bits-sum-right : (n a b c : ℕ) → bitProduct n a (b ⊕ c) ≡ bitProduct n a b ⊕ bitProduct n a c
+unfolding bitProduct
+bits-sum-right zero a b c = sym (X.add-self 0)
+bits-sum-right (suc n) a b c =
+    ap₂ _⊕_ (X.times-bit-of-sum a b c)
+    (ap (bitProduct n (double a)) (X.shift 1 b c) ∙ bits-sum-right n (double a) (b / 2) (c / 2))
+    ∙ X.add-medial (a * (b % 2)) (a * (c % 2)) (bitProduct n (double a) (b / 2)) (bitProduct n (double a) (c / 2))
 
 left : (b : ℕ) → Linear (λ a. a ⊗ b)
 unfolding _⊗_
 left b = record {
-  sum = λ a c. ap (λ (x : ℕ). digitProduct 8 x (b % 256)) (X.mask 8 a c)
-      ∙ digits-sum-left 8 (a % 256) (c % 256) (b % 256);
-  low = λ a. ap (λ (x : ℕ). digitProduct 8 x (b % 256)) (N.mod-mod a 256);
+  sum = λ a c. ap (λ (x : ℕ). bitProduct 8 x (b % 256)) (X.mask 8 a c)
+      ∙ bits-sum-left 8 (a % 256) (c % 256) (b % 256);
+  low = λ a. ap (λ (x : ℕ). bitProduct 8 x (b % 256)) (N.mod-mod a 256);
 }
 
 right : (a : ℕ) → Linear (λ b. a ⊗ b)
 unfolding _⊗_
 right a = record {
-  sum = λ b c. ap (digitProduct 8 (a % 256)) (X.mask 8 b c)
-      ∙ digits-sum-right 8 (a % 256) (b % 256) (c % 256);
-  low = λ b. ap (digitProduct 8 (a % 256)) (N.mod-mod b 256);
+  sum = λ b c. ap (bitProduct 8 (a % 256)) (X.mask 8 b c)
+      ∙ bits-sum-right 8 (a % 256) (b % 256) (c % 256);
+  low = λ b. ap (bitProduct 8 (a % 256)) (N.mod-mod b 256);
 }
 
 -- ---- the laws
@@ -105,7 +105,7 @@ add-mul a b c = left c .sum a b
 pub mul-add : (a b c : ℕ) → a ⊗ (b ⊕ c) ≡ (a ⊗ b) ⊕ (a ⊗ c)
 mul-add a = right a .sum
 
--- a factor is seen by its low eight digits
+-- a factor is seen by its low eight bits
 pub low-left : (a b : ℕ) → (a % 256) ⊗ b ≡ a ⊗ b
 low-left a b = left b .low a
 
@@ -122,7 +122,7 @@ comm-test : ℕ → ℕ → Bool
 comm-test i j = eqb (2 ^ i ⊗ 2 ^ j) (2 ^ j ⊗ 2 ^ i)
 
 comm-tests : T (every (λ i. every (comm-test i) 8) 8)
-unfolding comm-test _⊗_ digitProduct double _⊕_
+unfolding comm-test _⊗_ bitProduct double _⊕_
 comm-tests = tt
 
 pub mul-comm : (a b : ℕ) → a ⊗ b ≡ b ⊗ a
@@ -137,7 +137,7 @@ assoc-test : ℕ → ℕ → ℕ → Bool
 assoc-test i j k = eqb ((2 ^ i ⊗ 2 ^ j) ⊗ 2 ^ k) (2 ^ i ⊗ (2 ^ j ⊗ 2 ^ k))
 
 assoc-tests : T (every (λ i. every (λ j. every (assoc-test i j) 8) 8) 8)
-unfolding assoc-test _⊗_ digitProduct double _⊕_
+unfolding assoc-test _⊗_ bitProduct double _⊕_
 assoc-tests = tt
 
 pub mul-assoc : (a b c : ℕ) → (a ⊗ b) ⊗ c ≡ a ⊗ (b ⊗ c)
@@ -158,7 +158,7 @@ pub mul-left-comm : (a b c : ℕ) → a ⊗ (b ⊗ c) ≡ b ⊗ (a ⊗ c)
 mul-left-comm a b c = sym (mul-assoc a b c) ∙ ap (λ (x : ℕ). x ⊗ c) (mul-comm a b) ∙ mul-assoc b a c
 
 pub one-mul : (a : ℕ) → a < 256 → 1 ⊗ a ≡ a
-unfolding _⊗_ digitProduct double _⊕_
+unfolding _⊗_ bitProduct double _⊕_
 one-mul a h =
     agree-test (λ a. 1 ⊗ a) (λ a. a % 256) (right 1) (record { sum = X.mask 8; low = λ a. N.mod-mod a 256 }) tt a
     ∙ N.mod-eq-of-lt h
@@ -171,7 +171,7 @@ unfolding double
 double-low a = ap₂ _⊕_ (omega arith) (omega arith)
 
 pub double-two : (a : ℕ) → double a ≡ 2 ⊗ a
-unfolding _⊗_ digitProduct double _⊕_
+unfolding _⊗_ bitProduct double _⊕_
 double-two = agree-test double (λ a. 2 ⊗ a) (record { sum = double-sum; low = double-low }) (right 2) tt
 
 -- ---- bounds
@@ -179,11 +179,11 @@ pub double-lt : (a : ℕ) → double a < 256
 unfolding double
 double-lt a = X.add-lt (N.mod-lt (a * 2) (lit< tt)) (omega arith)
 
-digits-lt : (n a b : ℕ) → a < 256 → digitProduct n a b < 256
-unfolding digitProduct
-digits-lt zero a b h = lit< tt
-digits-lt (suc n) a b h = X.add-lt (X.times-digit-lt a b h) (digits-lt n (double a) (b / 2) (double-lt a))
+bits-lt : (n a b : ℕ) → a < 256 → bitProduct n a b < 256
+unfolding bitProduct
+bits-lt zero a b h = lit< tt
+bits-lt (suc n) a b h = X.add-lt (X.times-bit-lt a b h) (bits-lt n (double a) (b / 2) (double-lt a))
 
 pub mul-lt : (a b : ℕ) → a ⊗ b < 256
 unfolding _⊗_
-mul-lt a b = digits-lt 8 (a % 256) (b % 256) (N.mod-lt a (lit< tt))
+mul-lt a b = bits-lt 8 (a % 256) (b % 256) (N.mod-lt a (lit< tt))

@@ -1,4 +1,4 @@
--- The laws of the sum: exclusive or adds digits without carry, and a product with a digit keeps it.
+-- The laws of the sum: exclusive or adds bits without carry, and a product with a bit keeps it.
 use mathlib.Core.Path.{_≡_, refl, sym, ap, ap₂, _∙_}
 use Prim.Native.Nat.{ℕ, zero, suc, _+_, _*_, _/_, _%_, _^_, _<_}
 use native.Mathlib.Nat as N
@@ -8,9 +8,9 @@ use lib.Bits.{differ, xor-step, xor-comm, xor-self, xor-zero-r, xor-lt, xor-shr,
 use lib.Pow.{split, pow-pos}
 use Rattle.gf256.specs.Field.{_⊕_}
 
--- ---- digits
-digit-lt : (a : ℕ) → a % 2 < 2
-digit-lt a = omega arith
+-- ---- bits
+bit-lt : (a : ℕ) → a % 2 < 2
+bit-lt a = omega arith
 
 differ-lt : (x y : ℕ) → x < 2 → y < 2 → differ x y < 2
 differ-lt zero y hx hy = hy
@@ -40,12 +40,12 @@ pub mask : (k a b : ℕ) → (a ⊕ b) % 2 ^ k ≡ (a % 2 ^ k) ⊕ (b % 2 ^ k)
 unfolding _⊕_
 mask k a b = xor-mod a b k
 
-digit : (a b : ℕ) → (a ⊕ b) % 2 ≡ differ (a % 2) (b % 2)
-digit a b =
+bit : (a b : ℕ) → (a ⊕ b) % 2 ≡ differ (a % 2) (b % 2)
+bit a b =
     ap (λ (x : ℕ). x % 2) (step a b)
-    ∙ digits-mod ((a / 2) ⊕ (b / 2)) (differ-lt (a % 2) (b % 2) (digit-lt a) (digit-lt b))
+    ∙ digits-mod ((a / 2) ⊕ (b / 2)) (differ-lt (a % 2) (b % 2) (bit-lt a) (bit-lt b))
 
--- the k low digits of a number, and the rest
+-- the k low bits of a number, and the rest
 pub parts : (k a : ℕ) → a ≡ (a / 2 ^ k * 2 ^ k) ⊕ (a % 2 ^ k)
 unfolding _⊕_
 parts k a = sym (xor-shifted (a / 2 ^ k) k (a % 2 ^ k) (N.mod-lt a (pow-pos k)) ∙ split a k)
@@ -74,9 +74,9 @@ add-assoc =
     ∙ ap₂ (λ (x y : ℕ). x * 2 + y)
     (ap (λ (x : ℕ). x ⊕ (c / 2)) (shift 1 n b) ∙ ih (b / 2) (c / 2)
     ∙ ap (λ (x : ℕ). (n / 2) ⊕ x) (sym (shift 1 b c)))
-    (ap (λ (x : ℕ). differ x (c % 2)) (digit n b)
-    ∙ differ-assoc (n % 2) (b % 2) (c % 2) (digit-lt n) (digit-lt b) (digit-lt c)
-    ∙ ap (differ (n % 2)) (sym (digit b c)))
+    (ap (λ (x : ℕ). differ x (c % 2)) (bit n b)
+    ∙ differ-assoc (n % 2) (b % 2) (c % 2) (bit-lt n) (bit-lt b) (bit-lt c)
+    ∙ ap (differ (n % 2)) (sym (bit b c)))
     ∙ sym (step n (b ⊕ c)))
 
 pub add-left-comm : (a b c : ℕ) → a ⊕ (b ⊕ c) ≡ b ⊕ (a ⊕ c)
@@ -92,30 +92,30 @@ pub add-lt : {a b : ℕ} → a < 256 → b < 256 → a ⊕ b < 256
 unfolding _⊕_
 add-lt {a} {b} = xor-lt 8 a b
 
--- ---- products with a digit
-times-digit : (a b x : ℕ) → x < 2 → (a ⊕ b) * x ≡ (a * x) ⊕ (b * x)
-times-digit a b zero h = simp (N.mul-zero, zero-add)
-times-digit a b (suc zero) h = simp N.mul-one
-times-digit a b (suc (suc x)) h = omega arith
+-- ---- products with a bit
+times-bit : (a b x : ℕ) → x < 2 → (a ⊕ b) * x ≡ (a * x) ⊕ (b * x)
+times-bit a b zero h = simp (N.mul-zero, zero-add)
+times-bit a b (suc zero) h = simp N.mul-one
+times-bit a b (suc (suc x)) h = omega arith
 
-digit-times : (a x y : ℕ) → x < 2 → y < 2 → a * differ x y ≡ (a * x) ⊕ (a * y)
-digit-times a zero y hx hy = simp (N.mul-zero, zero-add)
-digit-times a (suc x) zero hx hy = simp (N.mul-zero, add-zero)
-digit-times a (suc zero) (suc zero) hx hy = simp (N.mul-zero, add-self)
-digit-times a (suc zero) (suc (suc y)) hx hy = omega arith
-digit-times a (suc (suc x)) (suc y) hx hy = omega arith
+bit-times : (a x y : ℕ) → x < 2 → y < 2 → a * differ x y ≡ (a * x) ⊕ (a * y)
+bit-times a zero y hx hy = simp (N.mul-zero, zero-add)
+bit-times a (suc x) zero hx hy = simp (N.mul-zero, add-zero)
+bit-times a (suc zero) (suc zero) hx hy = simp (N.mul-zero, add-self)
+bit-times a (suc zero) (suc (suc y)) hx hy = omega arith
+bit-times a (suc (suc x)) (suc y) hx hy = omega arith
 
-pub sum-times-digit : (a b c : ℕ) → (a ⊕ b) * (c % 2) ≡ (a * (c % 2)) ⊕ (b * (c % 2))
-sum-times-digit a b c = times-digit a b (c % 2) (digit-lt c)
+pub sum-times-bit : (a b c : ℕ) → (a ⊕ b) * (c % 2) ≡ (a * (c % 2)) ⊕ (b * (c % 2))
+sum-times-bit a b c = times-bit a b (c % 2) (bit-lt c)
 
-pub times-digit-of-sum : (a b c : ℕ) → a * ((b ⊕ c) % 2) ≡ (a * (b % 2)) ⊕ (a * (c % 2))
-times-digit-of-sum a b c =
-    ap (λ (x : ℕ). a * x) (digit b c) ∙ digit-times a (b % 2) (c % 2) (digit-lt b) (digit-lt c)
+pub times-bit-of-sum : (a b c : ℕ) → a * ((b ⊕ c) % 2) ≡ (a * (b % 2)) ⊕ (a * (c % 2))
+times-bit-of-sum a b c =
+    ap (λ (x : ℕ). a * x) (bit b c) ∙ bit-times a (b % 2) (c % 2) (bit-lt b) (bit-lt c)
 
-pub times-digit-lt : (a b : ℕ) {c : ℕ} → a < c → a * (b % 2) < c
-times-digit-lt a b {c} h = by-digit (b % 2) (digit-lt b)
+pub times-bit-lt : (a b : ℕ) {c : ℕ} → a < c → a * (b % 2) < c
+times-bit-lt a b {c} h = by-bit (b % 2) (bit-lt b)
   where
-    by-digit : (d : ℕ) → d < 2 → a * d < c
-    by-digit zero k = rw N.mul-zero (omega arith)
-    by-digit (suc zero) k = rw N.mul-one h
-    by-digit (suc (suc d)) k = omega arith
+    by-bit : (d : ℕ) → d < 2 → a * d < c
+    by-bit zero k = rw N.mul-zero (omega arith)
+    by-bit (suc zero) k = rw N.mul-one h
+    by-bit (suc (suc d)) k = omega arith

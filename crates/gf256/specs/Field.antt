@@ -3,7 +3,7 @@
 -- a ⊕ b               : the sum
 -- reduced             : what x^8 reduces to
 -- double a            : the product of 2 and a
--- digitProduct n a b  : the product of a and the n lowest binary digits of b
+-- bitProduct n a b    : the product of a and the n lowest bits of b
 -- a ⊗ b               : the product
 -- power n             : the n-th power of 2
 -- log-from m n p a    : the logarithm of a among the m numbers from n on, where p is the power at n
@@ -28,22 +28,23 @@ infixl 70 _⊗_
 unfoldable pub _⊕_ : ℕ → ℕ → ℕ
 _⊕_ a b = bitXor a b
 
--- 'Reduced by x^8+x^4+x^3+x^2+1 (0x11D)': x^8 is the sum of the other four terms.
+-- 'reduced by x^8+x^4+x^3+x^2+1 (0x11D)': x^8 is the sum of the other four terms.
 abbrev pub reduced : ℕ
 reduced = 0x1d
 
--- 'Bytes as polynomials over two elements': the digits move up by one, and one that leaves the byte is reduced.
+-- 'bytes as polynomials over two elements': times x, each coefficient moves up one power, and x^8 is replaced by
+-- `reduced`.
 unfoldable pub double : ℕ → ℕ
 double a = (a * 2 % 256) ⊕ (reduced * (a / 128 % 2))
 
--- The same sentence: the product of polynomials by the digits of the second, lowest first.
-unfoldable pub digitProduct : ℕ → ℕ → ℕ → ℕ
-digitProduct zero a b = 0
-digitProduct (suc n) a b = (a * (b % 2)) ⊕ digitProduct n (double a) (b / 2)
+-- The product of polynomials, by the bits of the second, lowest first.
+unfoldable pub bitProduct : ℕ → ℕ → ℕ → ℕ
+bitProduct zero a b = 0
+bitProduct (suc n) a b = (a * (b % 2)) ⊕ bitProduct n (double a) (b / 2)
 
--- The same sentence: the product of two bytes. A number past 255 counts as its lowest eight digits.
+-- The product of two bytes. A number past 255 counts as its lowest eight bits.
 unfoldable pub _⊗_ : ℕ → ℕ → ℕ
-_⊗_ a b = digitProduct 8 (a % 256) (b % 256)
+_⊗_ a b = bitProduct 8 (a % 256) (b % 256)
 
 -- 'Powers of 2 and their logarithms come from fixed tables': the n-th power.
 unfoldable pub power : ℕ → ℕ
@@ -55,11 +56,12 @@ unfoldable pub log-from : ℕ → ℕ → ℕ → ℕ → ℕ
 log-from zero n p a = 0
 log-from (suc m) n p a = elim (eqb p a) [ true ↦ n | false ↦ log-from m (suc n) (double p) a ]
 
--- 'Logarithms lie in 0..254, so that of 1 is 0, and the entry for 0, which has no logarithm, holds 0.'
+-- 'logarithms lie in 0..254, so that of 1 is 0, and the entry for 0, which has no logarithm, holds 0.' The power at
+-- the logarithm of any byte but 0 is that byte: `power-log` in proofs/.
 unfoldable pub log : ℕ → ℕ
 log a = log-from 255 0 1 a
 
--- 'Fixed tables of 256 entries': the first is `tableOf power`, the second `tableOf log`.
+-- 'fixed tables of 256 entries': the first is `tableOf power`, the second `tableOf log`.
 unfoldable pub tableOf : (ℕ → ℕ) → List ℕ
 tableOf f = listed 256 f
 
@@ -68,7 +70,8 @@ unfoldable pub raised : ℕ → ℕ → ℕ
 raised a zero = 1
 raised a (suc n) = a ⊗ raised a n
 
--- 'Inverse of zero is given as 0; no other byte has inverse 0.' The 255th power of every other byte is 1.
+-- 'Inverse of zero is given as 0; no other byte has inverse 0.' The 255th power of every other byte is 1, so that the
+-- product with this is 1: `mul-inverse`, `inverse-zero` and `inverse-above` in proofs/.
 unfoldable pub inverse : ℕ → ℕ
 inverse a = raised a 254
 
@@ -83,6 +86,6 @@ quotientsOf [] ys = []
 quotientsOf (x ∷ xs) [] = x ∷ xs
 quotientsOf (x ∷ xs) (y ∷ ys) = (x ⊗ inverse y) ∷ quotientsOf xs ys
 
--- What whoever divides by a list shows of it: every entry is above 0.
+-- What a caller shows of the list it divides by: every entry is above 0.
 abbrev pub NoZero : List ℕ → Type 0
 NoZero ys = (i : ℕ) → i < length ys → 0 < getD ys i 0

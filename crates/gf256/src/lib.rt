@@ -62,7 +62,7 @@ fn quotient(exp: &[u8; 256], log: &[u8; 256], a: u8, b: u8) -> u8
     power_at(exp, n)
 }
 
-// The quotient. Whoever divides shows that the divisor is not 0.
+// The quotient. The caller shows that the divisor is not 0.
 pub fn divide(a: u8, b: u8) -> u8
     requires { ⌜ 0 < b ⌝ }
     ensures { λ r. ⌜ r ≡ a ⊗ Field.inverse b ⌝ }

@@ -1,1 +1,3 @@
 pub mod Listed
+pub mod Written
+pub mod Lent

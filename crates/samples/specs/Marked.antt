@@ -8,7 +8,7 @@ use mathlib.Core.List.{List, [], _∷_, map}
 use Prim.Native.Nat.{ℕ}
 use native.Mathlib.Decide.{ℕ-discrete, decLt}
 use Rattle.lists.specs.Listed.{listed}
-use Rattle.gf256.specs.Field.{_⊕_, _⊗_, double, digitProduct, raised, inverse}
+use Rattle.gf256.specs.Field.{_⊕_, _⊗_, double, bitProduct, raised, inverse}
 use Rattle.algebra.specs.Sum.{sum}
 use Rattle.algebra.specs.Weight.{weight}
 use Rattle.document.specs.declared.Numbers.{Numbers}
@@ -59,5 +59,5 @@ marked =
 pub shown : map (λ c. c .gives) marked ≡ map (λ c. c .says) marked
 unfolding marked zeros encodeOf encodeTests profileTests shapeAccepted constantAccepted stripAccepted tried answerNumber
     answerValue encoded laidOut coupledAt constantOf baseAt byteAt start listed sum weight byte number bytes _⊕_ _⊗_
-    double digitProduct raised inverse ℕ-discrete decLt
+    double bitProduct raised inverse ℕ-discrete decLt
 shown = refl

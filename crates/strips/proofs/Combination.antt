@@ -1,4 +1,4 @@
--- The laws of a combination of strips: its length, its bytes, and Horner's rule over the digits of the weights.
+-- The laws of a combination of strips: its length, its bytes, and Horner's rule over the bits of the weights.
 use mathlib.Core.Path.{_≡_, refl, sym, ap, ap₂, _∙_}
 use mathlib.Core.List.{List, [], _∷_}
 use Prim.Native.Nat.{ℕ, suc, _+_, _-_, _/_, _%_, _^_, _<_}
@@ -12,8 +12,8 @@ use Rattle.lists.proofs.Listed.{listed-length, listed-at, listed-ext}
 use Rattle.gf256.specs.Field.{_⊕_, _⊗_, double}
 use Rattle.gf256.proofs.Ring.{ring, zero-mul, add-self}
 use Rattle.strips.specs.Strips.{sumOf, combinationOf}
-use Rattle.strips.specs.Planes.{shiftedBy, digitsAt, planeOf}
-use Rattle.strips.proofs.Byte.{double-add, mul-digit}
+use Rattle.strips.specs.Planes.{shiftedBy, bitsAt, planeOf}
+use Rattle.strips.proofs.Byte.{double-add, mul-bit}
 
 pub combination-length : (ws src : List ℕ) (first stride len : ℕ) → length (combinationOf ws src first stride len) ≡ len
 unfolding combinationOf
@@ -51,20 +51,20 @@ double-zero : double 0 ≡ 0
 unfolding double
 double-zero = add-self 0
 
--- one weight's digit i and the digits above it
-weight-digit : (w i s : ℕ) → w < 256 → (w / 2 ^ i) ⊗ s ≡ double ((w / 2 ^ suc i) ⊗ s) ⊕ ((w / 2 ^ i % 2) ⊗ s)
-weight-digit w i s h =
-    mul-digit (w / 2 ^ i) s (omega (arith, shr-le w i))
+-- one weight's bit i and the bits above it
+weight-bit : (w i s : ℕ) → w < 256 → (w / 2 ^ i) ⊗ s ≡ double ((w / 2 ^ suc i) ⊗ s) ⊕ ((w / 2 ^ i % 2) ⊗ s)
+weight-bit w i s h =
+    mul-bit (w / 2 ^ i) s (omega (arith, shr-le w i))
     ∙ ap (λ (v : ℕ). double (v ⊗ s) ⊕ ((w / 2 ^ i % 2) ⊗ s)) (shr-shr w i 1 ∙ ap (λ (k : ℕ). w / 2 ^ k) (add-one i))
 
 module _ (i : ℕ) (src : List ℕ) (stride : ℕ) where
-  sum-digit : (ws : List ℕ) (at : ℕ) → Bytes ws
+  sum-bit : (ws : List ℕ) (at : ℕ) → Bytes ws
       → sumOf (shiftedBy i ws) src at stride
-      ≡ double (sumOf (shiftedBy (suc i) ws) src at stride) ⊕ sumOf (digitsAt i ws) src at stride
-  unfolding sumOf shiftedBy digitsAt
-  sum-digit [] at h = sym (ap (λ (z : ℕ). z ⊕ 0) double-zero ∙ add-self 0)
-  sum-digit (w ∷ ws) at h =
-      ap₂ _⊕_ (weight-digit w i (getD src at 0) (h 0)) (sum-digit ws (at + stride) (λ q. h (suc q)))
+      ≡ double (sumOf (shiftedBy (suc i) ws) src at stride) ⊕ sumOf (bitsAt i ws) src at stride
+  unfolding sumOf shiftedBy bitsAt
+  sum-bit [] at h = sym (ap (λ (z : ℕ). z ⊕ 0) double-zero ∙ add-self 0)
+  sum-bit (w ∷ ws) at h =
+      ap₂ _⊕_ (weight-bit w i (getD src at 0) (h 0)) (sum-bit ws (at + stride) (λ q. h (suc q)))
       ∙ double-sort _ _ _ _
 
 -- a step of the rule
@@ -83,9 +83,9 @@ horner i ws src first stride len x y h k e f =
     step =
         rw (combination-length (shiftedBy (suc (i - 1)) ws) src first stride len)
         (listed-ext len _ _ (λ b l.
-        ap (λ (z : ℕ). double z ⊕ sumOf (digitsAt (i - 1) ws) src (first + b) stride)
+        ap (λ (z : ℕ). double z ⊕ sumOf (bitsAt (i - 1) ws) src (first + b) stride)
         (combination-at (shiftedBy (suc (i - 1)) ws) src first stride len b l)
-        ∙ sym (sum-digit (i - 1) src stride ws (first + b) h)))
+        ∙ sym (sum-bit (i - 1) src stride ws (first + b) h)))
 
 -- where the rule begins and ends
 pub horner-none : (ws src : List ℕ) (first stride len : ℕ) → Bytes ws

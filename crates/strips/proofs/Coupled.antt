@@ -1,7 +1,7 @@
 -- The laws of coupled strips: the length, the bytes of both strips and all others, and one offset more.
 use mathlib.Core.Path.{_≡_, refl, sym, ap, ap₂, _∙_}
 use mathlib.Core.Logic.{_≢_}
-use mathlib.Core.Bool.{Bool, true, false, _&&_}
+use mathlib.Core.Bool.{Bool, true, false, _&&_, cond}
 use mathlib.Core.List.{List}
 use Prim.Native.Nat.{ℕ, _+_, _-_, _≤_, _<_}
 use native.Mathlib.Decide.{ℕ-discrete, decLt}
@@ -12,7 +12,7 @@ use lib.Seq.{ext-getD, getD-set-same, getD-set-other}
 use borrow.Author.Tests.{lt-ltb, le-ltb, le-leb, lt-leb}
 use Rattle.lists.proofs.Listed.{listed-length, listed-at}
 use Rattle.gf256.specs.Field.{_⊕_, _⊗_}
-use Rattle.strips.specs.Strips.{inStrip, choose, coupledStrips}
+use Rattle.strips.specs.Strips.{inStrip, coupledStrips}
 
 in-strip : (from s p : ℕ) → from ≤ p → p < from + s → inStrip from s p ≡ true
 in-strip from s p h k = ap₂ _&&_ (le-leb from p h) (lt-ltb p (from + s) k)
@@ -37,14 +37,14 @@ module _ (t upper lower s : ℕ) (x : List ℕ) where
 
   coupled-at : (p : ℕ) (inUpper inLower : Bool) → inStrip upper s p ≡ inUpper → inStrip lower s p ≡ inLower
       → p < length x → getD (coupledStrips t upper lower s x) p 0
-      ≡ choose inUpper (getD x p 0 ⊕ getD x (lower + (p - upper)) 0)
-      (choose inLower (getD x p 0 ⊕ (t ⊗ getD x (upper + (p - lower)) 0)) (getD x p 0))
+      ≡ cond inUpper (getD x p 0 ⊕ getD x (lower + (p - upper)) 0)
+      (cond inLower (getD x p 0 ⊕ (t ⊗ getD x (upper + (p - lower)) 0)) (getD x p 0))
   unfolding coupledStrips
   coupled-at p inUpper inLower e f h =
       listed-at (length x) _ p 0 h
       ∙ ap₂ (λ (u v : Bool).
-      choose u (getD x p 0 ⊕ getD x (lower + (p - upper)) 0)
-      (choose v (getD x p 0 ⊕ (t ⊗ getD x (upper + (p - lower)) 0)) (getD x p 0))) e f
+      cond u (getD x p 0 ⊕ getD x (lower + (p - upper)) 0)
+      (cond v (getD x p 0 ⊕ (t ⊗ getD x (upper + (p - lower)) 0)) (getD x p 0))) e f
 
   pub coupled-elsewhere : (p : ℕ) → (upper ≤ p → p < upper + s → ⊥) → (lower ≤ p → p < lower + s → ⊥)
       → getD (coupledStrips t upper lower s x) p 0 ≡ getD x p 0

@@ -1,4 +1,4 @@
--- The offsets of the sources whose weight has a digit: how they are gathered, where they lie, what adding at them
+-- The offsets of the sources whose weight has a bit: how they are gathered, where they lie, what adding at them
 -- gives.
 use mathlib.Core.Path.{_≡_, refl, sym, ap, ap₂, _∙_}
 use mathlib.Core.List.{List, [], _∷_, _++_, append-nil}
@@ -14,17 +14,17 @@ use Rattle.lists.proofs.Listed.{listed-ext}
 use Rattle.gf256.specs.Field.{_⊕_, double}
 use Rattle.gf256.proofs.Ring as R
 use Rattle.strips.specs.Strips.{sumOf}
-use Rattle.strips.specs.Planes.{digitsAt, planeOf, offsetsOf, addedAt, doubledWith}
+use Rattle.strips.specs.Planes.{bitsAt, planeOf, offsetsOf, addedAt, doubledWith}
 
 -- ---- gathering
-digits-length : (i : ℕ) (ws : List ℕ) → length (digitsAt i ws) ≡ length ws
-unfolding digitsAt
-digits-length i ws = length-map ws _
+bits-length : (i : ℕ) (ws : List ℕ) → length (bitsAt i ws) ≡ length ws
+unfolding bitsAt
+bits-length i ws = length-map ws _
 
-digits-append : (i : ℕ) (ws vs : List ℕ) → digitsAt i (ws ++ vs) ≡ digitsAt i ws ++ digitsAt i vs
-unfolding digitsAt
-digits-append i [] vs = refl
-digits-append i (w ∷ ws) vs = ap (λ (l : List ℕ). (w / 2 ^ i % 2) ∷ l) (digits-append i ws vs)
+bits-append : (i : ℕ) (ws vs : List ℕ) → bitsAt i (ws ++ vs) ≡ bitsAt i ws ++ bitsAt i vs
+unfolding bitsAt
+bits-append i [] vs = refl
+bits-append i (w ∷ ws) vs = ap (λ (l : List ℕ). (w / 2 ^ i % 2) ∷ l) (bits-append i ws vs)
 
 shift : (first stride m : ℕ) → first + stride + m * stride ≡ first + suc m * stride
 shift first stride m = omega (arith, suc-mul m stride)
@@ -42,7 +42,7 @@ offsets-append (suc d ∷ ds) es first stride =
     (offsets-append ds es (first + stride) stride
     ∙ ap (λ (k : ℕ). offsetsOf ds (first + stride) stride ++ offsetsOf es k stride) (shift first stride (length ds)))
 
--- the next offset is written behind those gathered, and counted where its digit is 1
+-- the next offset is written behind those gathered, and counted where its bit is 1
 count-one : (d count o stride : ℕ) (at : List ℕ) → d < 2 → count < length at
     → take (count + d) (set at count o) ≡ take count at ++ offsetsOf (d ∷ []) o stride
 unfolding offsetsOf
@@ -54,18 +54,18 @@ count-one (suc zero) count o stride at h k =
 count-one (suc (suc d)) count o stride at h k = absurd (omega arith)
 
 pub gathered : (i : ℕ) (ws at : List ℕ) (count q first stride : ℕ) → count < length at → q < length ws
-    → take count at ≡ offsetsOf (digitsAt i (take q ws)) first stride
+    → take count at ≡ offsetsOf (bitsAt i (take q ws)) first stride
     → take (count + getD ws q 0 / 2 ^ i % 2) (set at count (first + q * stride))
-    ≡ offsetsOf (digitsAt i (take (q + 1) ws)) first stride
-unfolding digitsAt
+    ≡ offsetsOf (bitsAt i (take (q + 1) ws)) first stride
+unfolding bitsAt
 gathered i ws at count q first stride h k e =
     count-one (getD ws q 0 / 2 ^ i % 2) count (first + q * stride) stride at (mod-lt _ (lit< tt)) h
-    ∙ ap₂ (λ (l : List ℕ) (m : ℕ). l ++ offsetsOf (digitsAt i (getD ws q 0 ∷ [])) (first + m * stride) stride) e
-    (sym (digits-length i (take q ws) ∙ length-take-le q ws (omega arith)))
-    ∙ sym (offsets-append (digitsAt i (take q ws)) (digitsAt i (getD ws q 0 ∷ [])) first stride)
+    ∙ ap₂ (λ (l : List ℕ) (m : ℕ). l ++ offsetsOf (bitsAt i (getD ws q 0 ∷ [])) (first + m * stride) stride) e
+    (sym (bits-length i (take q ws) ∙ length-take-le q ws (omega arith)))
+    ∙ sym (offsets-append (bitsAt i (take q ws)) (bitsAt i (getD ws q 0 ∷ [])) first stride)
     ∙ ap (λ (ds : List ℕ). offsetsOf ds first stride)
-    (sym (digits-append i (take q ws) (getD ws q 0 ∷ [])) ∙ ap (digitsAt i) (sym (take-suc ws q 0 k))
-    ∙ ap (λ (m : ℕ). digitsAt i (take m ws)) (sym (add-one q)))
+    (sym (bits-append i (take q ws) (getD ws q 0 ∷ [])) ∙ ap (bitsAt i) (sym (take-suc ws q 0 k))
+    ∙ ap (λ (m : ℕ). bitsAt i (take m ws)) (sym (add-one q)))
 
 -- ---- the sources lie inside src
 offsets-inside : (ds : List ℕ) (first stride n size : ℕ) → ((q : ℕ) → q < length ds → first + q * stride + n ≤ size)
@@ -82,32 +82,32 @@ offsets-inside (suc d ∷ ds) first stride n size h (suc j) k =
 
 pub gathered-inside : (i : ℕ) (ws : List ℕ) (first stride n size : ℕ)
     → ((q : ℕ) → q < length ws → first + q * stride + n ≤ size)
-    → (j : ℕ) → j < length (offsetsOf (digitsAt i ws) first stride)
-    → getD (offsetsOf (digitsAt i ws) first stride) j 0 + n ≤ size
+    → (j : ℕ) → j < length (offsetsOf (bitsAt i ws) first stride)
+    → getD (offsetsOf (bitsAt i ws) first stride) j 0 + n ≤ size
 gathered-inside i ws first stride n size h =
-    offsets-inside (digitsAt i ws) first stride n size (λ q l. h q (omega (arith, digits-length i ws)))
+    offsets-inside (bitsAt i ws) first stride n size (λ q l. h q (omega (arith, bits-length i ws)))
 
 -- ---- adding at the offsets
-added-digit : (d : ℕ) (ds src : List ℕ) (first stride b : ℕ) → d < 2 → getD src (first + b) 0 < 256
+added-bit : (d : ℕ) (ds src : List ℕ) (first stride b : ℕ) → d < 2 → getD src (first + b) 0 < 256
     → addedAt (offsetsOf ds (first + stride) stride) src b ≡ sumOf ds src (first + b + stride) stride
     → addedAt (offsetsOf (d ∷ ds) first stride) src b ≡ sumOf (d ∷ ds) src (first + b) stride
 unfolding offsetsOf addedAt sumOf
-added-digit zero ds src first stride b h k e =
+added-bit zero ds src first stride b h k e =
     e ∙ sym (ap (λ (z : ℕ). z ⊕ sumOf ds src (first + b + stride) stride) (R.zero-mul _) ∙ R.zero-add _)
-added-digit (suc zero) ds src first stride b h k e = ap₂ _⊕_ (sym (R.one-mul _ k)) e
-added-digit (suc (suc d)) ds src first stride b h k e = absurd (omega arith)
+added-bit (suc zero) ds src first stride b h k e = ap₂ _⊕_ (sym (R.one-mul _ k)) e
+added-bit (suc (suc d)) ds src first stride b h k e = absurd (omega arith)
 
 added-gathered : (i : ℕ) (ws src : List ℕ) (first stride b : ℕ) → ((p : ℕ) → getD src p 0 < 256)
-    → addedAt (offsetsOf (digitsAt i ws) first stride) src b ≡ sumOf (digitsAt i ws) src (first + b) stride
-unfolding digitsAt offsetsOf addedAt sumOf
+    → addedAt (offsetsOf (bitsAt i ws) first stride) src b ≡ sumOf (bitsAt i ws) src (first + b) stride
+unfolding bitsAt offsetsOf addedAt sumOf
 added-gathered i [] src first stride b h = refl
 added-gathered i (w ∷ ws) src first stride b h =
-    added-digit (w / 2 ^ i % 2) (digitsAt i ws) src first stride b (mod-lt _ (lit< tt)) (h (first + b))
+    added-bit (w / 2 ^ i % 2) (bitsAt i ws) src first stride b (mod-lt _ (lit< tt)) (h (first + b))
     (added-gathered i ws src (first + stride) stride b h
-    ∙ ap (λ (p : ℕ). sumOf (digitsAt i ws) src p stride) (omega arith))
+    ∙ ap (λ (p : ℕ). sumOf (bitsAt i ws) src p stride) (omega arith))
 
 pub plane-gathered : (i : ℕ) (ws src x : List ℕ) (first stride : ℕ) (os y : List ℕ) → ((p : ℕ) → getD src p 0 < 256)
-    → os ≡ offsetsOf (digitsAt i ws) first stride → y ≡ doubledWith os src x → y ≡ planeOf i ws src first stride x
+    → os ≡ offsetsOf (bitsAt i ws) first stride → y ≡ doubledWith os src x → y ≡ planeOf i ws src first stride x
 unfolding doubledWith planeOf
 plane-gathered i ws src x first stride os y h e f =
     f

@@ -1,9 +1,10 @@
--- How a combination is made, by Horner's rule over the digits of the weights: what the inner functions leave.
+-- How a combination is made, by Horner's rule over the bits of the weights: what the inner functions leave. A plane is
+-- one bit of all the weights.
 --
--- shiftedBy i ws                  : the weights without their i lowest digits
--- digitsAt i ws                   : digit i of each weight, 0 or 1
--- planeOf i ws src first stride x : one step of the rule: x doubled, and the sources added whose weight has digit i
--- offsetsOf ds first stride       : the offsets first + q * stride of the sources q whose digit is not 0
+-- shiftedBy i ws                  : the weights without their i lowest bits
+-- bitsAt i ws                     : bit i of each weight, 0 or 1
+-- planeOf i ws src first stride x : one step of the rule: x doubled, and the sources added whose weight has bit i
+-- offsetsOf ds first stride       : the offsets first + q * stride of the sources q whose bit is not 0
 -- addedAt os src b                : the bytes at b past each of the offsets os, summed
 -- addedWith os src x              : x with the strips of src at the offsets os added
 -- doubledWith os src x            : the same, with x doubled first
@@ -24,12 +25,12 @@ use Rattle.strips.specs.Strips.{sumOf}
 unfoldable pub shiftedBy : ℕ → List ℕ → List ℕ
 shiftedBy i ws = map (λ w. w / 2 ^ i) ws
 
-unfoldable pub digitsAt : ℕ → List ℕ → List ℕ
-digitsAt i ws = map (λ w. w / 2 ^ i % 2) ws
+unfoldable pub bitsAt : ℕ → List ℕ → List ℕ
+bitsAt i ws = map (λ w. w / 2 ^ i % 2) ws
 
 unfoldable pub planeOf : ℕ → List ℕ → List ℕ → ℕ → ℕ → List ℕ → List ℕ
 planeOf i ws src first stride x =
-    listed (length x) (λ b. double (getD x b 0) ⊕ sumOf (digitsAt i ws) src (first + b) stride)
+    listed (length x) (λ b. double (getD x b 0) ⊕ sumOf (bitsAt i ws) src (first + b) stride)
 
 unfoldable pub offsetsOf : List ℕ → ℕ → ℕ → List ℕ
 offsetsOf [] first stride = []

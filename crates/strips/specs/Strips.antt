@@ -1,12 +1,12 @@
 -- What is done to whole strips, as lists of bytes.
 --
--- sumOf ws src at stride                : a byte: the weights ws times the bytes of src at at, at + stride, .., summed
+-- sumOf ws src offset stride            : a byte: the sum of the weights ws times the bytes of src at offset,
+--                                         offset + stride, ..
 -- combinationOf ws src first stride len : the strip of len such bytes, from sources at first, first + stride, ..
--- Within first stride count len size    : what `combine` asks: count sources of len bytes lie within size bytes
+-- SourcesFit first stride count len size : what `combine` asks: count sources of len bytes lie within size bytes
 -- inStrip from s p                      : place p lies in the strip of s bytes that starts at `from`
--- choose c a b                          : a where c is true, else b
 -- coupledStrips t upper lower s x       : x with its strips at `upper` and `lower`, of s bytes each, coupled by t
-use mathlib.Core.Bool.{Bool, true, false, _&&_}
+use mathlib.Core.Bool.{Bool, _&&_, cond}
 use mathlib.Core.List.{List, [], _∷_}
 use Prim.Native.Nat.{ℕ, _+_, _-_, _*_, _≤_, _<_}
 use lib.Dec.{leb, ltb}
@@ -14,17 +14,17 @@ use lib.ListN.{length, getD}
 use Rattle.lists.specs.Listed.{listed}
 use Rattle.gf256.specs.Field.{_⊕_, _⊗_}
 
--- 'All rules hold at each byte offset of a strip on its own': one offset of a sum of weighted strips.
+-- 'all rules below hold at each byte offset of a strip on its own': one offset of a sum of weighted strips.
 unfoldable pub sumOf : List ℕ → List ℕ → ℕ → ℕ → ℕ
-sumOf [] src at stride = 0
-sumOf (w ∷ ws) src at stride = (w ⊗ getD src at 0) ⊕ sumOf ws src (at + stride) stride
+sumOf [] src offset stride = 0
+sumOf (w ∷ ws) src offset stride = (w ⊗ getD src offset 0) ⊕ sumOf ws src (offset + stride) stride
 
 -- The sum at every offset.
 unfoldable pub combinationOf : List ℕ → List ℕ → ℕ → ℕ → ℕ → List ℕ
 combinationOf ws src first stride len = listed len (λ b. sumOf ws src (first + b) stride)
 
 -- At most 24 sources, strips of at most 2048 bytes (a column: 4 rows of 512), and every source inside.
-pub record Within (first stride count len size : ℕ) : Type 0 where
+pub record SourcesFit (first stride count len size : ℕ) : Type 0 where
   pub few : count ≤ 24
   pub short : len ≤ 2048
   pub reach : (q : ℕ) → q < count → first + q * stride + len ≤ size
@@ -32,15 +32,11 @@ pub record Within (first stride count len size : ℕ) : Type 0 where
 abbrev pub inStrip : ℕ → ℕ → ℕ → Bool
 inStrip from s p = leb from p && ltb p (from + s)
 
-abbrev pub choose : Bool → ℕ → ℕ → ℕ
-choose true a b = a
-choose false a b = b
-
 -- 'Coupling', of one pair: in the upper strip the partner in the lower one is added to each byte, in the lower strip t
 -- times the partner in the upper one; all other bytes stay.
 unfoldable pub coupledStrips : ℕ → ℕ → ℕ → ℕ → List ℕ → List ℕ
 coupledStrips t upper lower s x =
     listed (length x) (λ p.
-    choose (inStrip upper s p) (getD x p 0 ⊕ getD x (lower + (p - upper)) 0)
-    (choose (inStrip lower s p) (getD x p 0 ⊕ (t ⊗ getD x (upper + (p - lower)) 0))
+    cond (inStrip upper s p) (getD x p 0 ⊕ getD x (lower + (p - upper)) 0)
+    (cond (inStrip lower s p) (getD x p 0 ⊕ (t ⊗ getD x (upper + (p - lower)) 0))
     (getD x p 0)))

@@ -4,8 +4,8 @@ ghost use Prim.Native.Nat.{ℕ, _+_, _*_, _^_, _<_, _≤_};
 ghost use lib.ListN.{length, take, drop, replicate};
 ghost use Rattle.gf256.specs.Field.{_⊗_, double};
 ghost use Rattle.lists.specs.Listed.{listed};
-ghost use Rattle.strips.specs.Strips.{combinationOf, coupledStrips, Within};
-ghost use Rattle.strips.specs.Planes.{digitsAt, planeOf, offsetsOf, addedWith, doubledWith};
+ghost use Rattle.strips.specs.Strips.{combinationOf, coupledStrips, SourcesFit};
+ghost use Rattle.strips.specs.Planes.{bitsAt, planeOf, offsetsOf, addedWith, doubledWith};
 ghost use Rattle.strips.specs.Planes.{partOf, addedFour, doubledFour, Alike, Lent};
 
 // The product with 2.
@@ -16,7 +16,7 @@ fn twice(a: u8) -> u8
     (a << 1) ^ r
 }
 
-// The product, by the digits of s: a form that the compiler turns into vectors.
+// The product, by the bits of s: a form that the compiler turns into vectors.
 fn times(c: u8, s: u8) -> u8
     ensures { λ r. ⌜ r ≡ c ⊗ s ⌝ }
 {
@@ -48,12 +48,13 @@ pub fn copy(dst: &mut [u8], src: &[u8])
 }
 
 // Fills a strip with zeros.
-fn clear(dst: &mut [u8])
-    ensures { λ _. ⌜ now (dst .exit) ≡ listed (length (now (dst .entry))) (λ b. 0) ⌝ }
+// The same byte everywhere.
+pub fn fill(dst: &mut [u8], value: u8)
+    ensures { λ _. ⌜ now (dst .exit) ≡ listed (length (now (dst .entry))) (λ b. value) ⌝ }
 {
     let mut b: usize = 0;
     while b < dst.len() {
-        dst[b] = 0;
+        dst[b] = value;
         b += 1;
     }
 }
@@ -84,13 +85,13 @@ fn double_add_four(dst: &mut [u8], s0: &[u8], s1: &[u8], s2: &[u8], s3: &[u8])
     }
 }
 
-// Gathers the offsets of the sources whose weight has digit i, and returns their number. A source is left out by
-// writing the next one over it: a branch on random digits would cost more.
+// Gathers the offsets of the sources whose weight has bit i, and returns their number. A source is left out by
+// writing the next one over it: a branch on random bits would cost more.
 fn gather(at: &mut [usize], weights: &[u8], i: usize, first: usize, stride: usize) -> usize
     requires { ⌜ (length (now weights) ≤ length (now at)) × (i < 8)
         × ((q : ℕ) → q < length (now weights) → first + q * stride < 2 ^ 64) ⌝ }
     ensures { λ r. ⌜ (r ≤ length (now (at .exit)))
-        × (take r (now (at .exit)) ≡ offsetsOf (digitsAt i (now (weights .entry))) first stride) ⌝ }
+        × (take r (now (at .exit)) ≡ offsetsOf (bitsAt i (now (weights .entry))) first stride) ⌝ }
 {
     let mut count: usize = 0;
     let mut q: usize = 0;
@@ -172,7 +173,7 @@ fn double_add<'a>(dst: &mut [u8], src: &'a [u8], zeros: &'a [u8], at: &[usize], 
     }
 }
 
-// The step of Horner's rule for digit i of the weights.
+// The step of Horner's rule for bit i of the weights.
 fn plane<'a>(
     dst: &mut [u8],
     src: &'a [u8],
@@ -182,7 +183,7 @@ fn plane<'a>(
     zeros: &'a [u8],
     i: usize,
 )
-    requires { ⌜ Within first stride (length (now weights)) (length (now dst)) (length (now src))
+    requires { ⌜ SourcesFit first stride (length (now weights)) (length (now dst)) (length (now src))
         × (now zeros ≡ replicate 2048 0) × (i < 8) ⌝ }
     ensures { λ _. ⌜ now (dst .exit)
         ≡ planeOf i (now (weights .entry)) (now (src .entry)) first stride (now (dst .entry)) ⌝ }
@@ -192,14 +193,14 @@ fn plane<'a>(
     double_add(dst, src, zeros, &at, count);
 }
 
-// The sum of the sources at first, first + stride, .. with these weights, by Horner's rule over the weights' digits.
+// The sum of the sources at first, first + stride, .. with these weights, by Horner's rule over the weights' bits.
 pub fn combine(dst: &mut [u8], src: &[u8], first: usize, stride: usize, weights: &[u8])
-    requires { ⌜ Within first stride (length (now weights)) (length (now dst)) (length (now src)) ⌝ }
+    requires { ⌜ SourcesFit first stride (length (now weights)) (length (now dst)) (length (now src)) ⌝ }
     ensures { λ _. ⌜ now (dst .exit)
         ≡ combinationOf (now (weights .entry)) (now (src .entry)) first stride (length (now (dst .entry))) ⌝ }
 {
     let zeros = [0u8; 2048];
-    clear(dst);
+    fill(dst, 0);
     let mut i: usize = 8;
     while i > 0 {
         i -= 1;

@@ -8,7 +8,8 @@ use lib.Seq.{length-take-le}
 use Rattle.gf256.specs.Field.{productOf}
 use Rattle.document.specs.Bytes.{bytes}
 use Rattle.coefficients.specs.Weights.{points, differencesOf, denominatorOf}
-use Rattle.coefficients.proofs.Lists.{front-fits, front-set, product-set}
+use Rattle.lists.proofs.Lent.{front-fits, front-set}
+use Rattle.coefficients.proofs.Lists.{product-set}
 use Rattle.coefficients.proofs.Lagrange.{differences-length}
 use Rattle.coefficients.proofs.denominator.Statement.{statement}
 use Rattle.coefficients.proofs.denominator.Tie as tie
@@ -34,7 +35,7 @@ array-write-d : tie.Need-array-write-d
 array-write-d c = search needs
 
 array-share-prefix-d : tie.Need-array-share-prefix-d
-array-share-prefix-d c = simp length-set (front-fits (c .before .differences .last .1 .1 .0) (written (c .before)))
+array-share-prefix-d c = simp length-set (front-fits (c .before .differences .last .1 .1 .0) _ (written (c .before)))
 
 slice-aggregate-product-of : tie.Need-slice-aggregate-product-of
 slice-aggregate-product-of c = sym (length-take-le _ _ (array-share-prefix-d (c .before)))
@@ -49,7 +50,7 @@ returns c =
     let s = d .before .before .before .before in
     let nodes = s .args .nodes .now in
     let q = s .args .q in
-    c .product-of .ensures ∙ ap productOf (front-set (d .differences .last .1 .1 .0) (written d) q 1 (omega arith))
+    c .product-of .ensures ∙ ap productOf (front-set (d .differences .last .1 .1 .0) _ (written d) q 1 (omega arith))
     ∙ ap (λ l. productOf (set l q 1)) (d .differences .ensures)
     ∙ product-set (length nodes) q (λ i. bytes .add (points nodes q) (points nodes i)) (omega arith)
 

@@ -1,25 +1,23 @@
 -- `coefficients::denominators` meets its contract. The invariant: the first q entries are the first q denominators.
-use mathlib.Core.Path.{_≡_, refl, ap, _∙_}
-use Prim.Native.Nat.{_-_, _≤_}
+use mathlib.Core.Path.{ap, _∙_}
+use Prim.Native.Nat.{_-_}
 use native.Mathlib.Omega.{arith}
 use borrow.Author.Needs.{needs}
-use lib.ListN.{length, length-set, take}
+use lib.ListN.{length}
 use Rattle.lists.specs.Listed.{listed}
+use Rattle.lists.proofs.Written.{Written, written-none, written-all, written-more}
 use Rattle.coefficients.specs.Weights.{denominatorOf, denominatorsOf}
-use Rattle.coefficients.proofs.Lists.{filled-more, filled-all}
 use Rattle.coefficients.proofs.denominators.Statement.{statement}
 use Rattle.coefficients.proofs.denominators.Tie as tie
 
 abbrev Inv-loop : tie.InvT-loop
-Inv-loop nodes out₀ q₀ out q =
-    (q ≤ length nodes) × (length out ≡ length out₀) × (take q out ≡ listed q (denominatorOf nodes))
+Inv-loop nodes out₀ q₀ out q = Written (denominatorOf nodes) q out₀ out
 
 abbrev μ-loop : tie.MeasureT-loop
-μ-loop nodes out₀ q₀ out q = length nodes - q
+μ-loop nodes out₀ q₀ out q = length out₀ - q
 
 loop-holds : tie.Need-loop-holds Inv-loop μ-loop
-unfolding listed
-loop-holds c = (omega arith, refl, refl)
+loop-holds c = written-none _ _
 
 denominator-requires : tie.Need-denominator-requires Inv-loop μ-loop
 denominator-requires c κs = search needs
@@ -36,23 +34,19 @@ loop-less c = search needs
 loop-again : tie.Need-loop-again Inv-loop μ-loop
 loop-again c =
     let l = c .before .before .loop in
-    let d = c .denominator in
-    let nodes = c .before .before .before .before .before .args .nodes .now in (
-      omega arith,
-      simp length-set (l .inv .1),
-      filled-more (denominatorOf nodes) (l .out) (l .q) (l .inv .2) (d .result) (d .ensures) (omega arith),
-    )
+    let s = c .before .before .before .before .before in
+    written-more _ (l .q) (s .args .out .now) (l .out) (l .inv) (omega arith) _ (c .denominator .ensures)
 
 same-length : tie.Need-same-length Inv-loop μ-loop
-same-length c = c .before .loop .inv .1
+same-length c = search needs
 
 returns : tie.Need-returns Inv-loop μ-loop
 unfolding denominatorsOf
 returns c =
     let l = c .before .loop in
-    let nodes = c .before .before .before .before .args .nodes .now in
-    filled-all (denominatorOf nodes) (l .out) (l .q) (l .inv .2) (omega arith)
-    ∙ ap (λ n. listed n (denominatorOf nodes)) (omega arith)
+    let s = c .before .before .before .before in
+    written-all _ (l .q) (s .args .out .now) (l .out) (l .inv) (omega arith)
+    ∙ ap (λ n. listed n (denominatorOf (s .args .nodes .now))) (s .pre .1)
 
 pub denominators-spec : {M : Type 1} → statement M
 denominators-spec =

@@ -1,29 +1,26 @@
 -- `coefficients::differences` meets its contract. The invariant: the first i entries are the first i differences.
-use mathlib.Core.Path.{_≡_, refl, ap, _∙_}
-use Prim.Native.Nat.{ℕ, _-_, _<_, _≤_}
+use mathlib.Core.Path.{ap, _∙_}
+use Prim.Native.Nat.{_-_, _<_}
 use native.Mathlib.Omega.{arith}
 use borrow.Author.Needs.{needs}
-use lib.ListN.{length, length-set, getD, take}
+use lib.ListN.{length, getD}
 use Rattle.lists.specs.Listed.{listed}
+use Rattle.lists.proofs.Written.{Written, written-none, written-all, written-more}
 use Rattle.gf256.specs.Field.{_⊕_}
 use Rattle.document.specs.Bytes.{bytes, byte, number}
 use Rattle.coefficients.specs.Weights.{points, differencesOf}
-use Rattle.coefficients.proofs.Lists.{filled-more, filled-all}
 use Rattle.coefficients.proofs.Lagrange.{difference}
 use Rattle.coefficients.proofs.differences.Statement.{statement}
 use Rattle.coefficients.proofs.differences.Tie as tie
 
 abbrev Inv-loop : tie.InvT-loop
-Inv-loop x nodes out₀ i₀ out i =
-    (i ≤ length nodes) × (length out ≡ length out₀)
-    × (take i out ≡ listed i (λ j. number (bytes .add (byte x) (points nodes j))))
+Inv-loop x nodes out₀ i₀ out i = Written (λ j. number (bytes .add (byte x) (points nodes j))) i out₀ out
 
 abbrev μ-loop : tie.MeasureT-loop
-μ-loop x nodes out₀ i₀ out i = length nodes - i
+μ-loop x nodes out₀ i₀ out i = length out₀ - i
 
 loop-holds : tie.Need-loop-holds Inv-loop μ-loop
-unfolding listed
-loop-holds c = (omega arith, refl, refl)
+loop-holds c = written-none _ _
 
 shared-slice-read-out : tie.Need-shared-slice-read-out Inv-loop μ-loop
 shared-slice-read-out c = search needs
@@ -44,24 +41,20 @@ loop-again c =
     let l = c .before .before .loop in
     let x = s .args .x in
     let nodes = s .args .nodes .now in
-    let f : ℕ → ℕ = λ j. number (bytes .add (byte x) (points nodes j)) in
     let b : getD nodes (l .i) 0 < 256 = omega (arith, c .shared-slice-known .given (l .i)) in
-    let e = difference x (getD nodes (l .i) 0) (omega arith) b in (
-      omega arith,
-      simp length-set (l .inv .1),
-      filled-more f (l .out) (l .i) (l .inv .2) _ e (omega arith),
-    )
+    written-more _ (l .i) (s .args .out .now) (l .out) (l .inv) (omega arith) _
+    (difference x (getD nodes (l .i) 0) (omega arith) b)
 
 same-length : tie.Need-same-length Inv-loop μ-loop
-same-length c = c .before .loop .inv .1
+same-length c = search needs
 
 returns : tie.Need-returns Inv-loop μ-loop
 unfolding differencesOf
 returns c =
     let l = c .before .loop in
     let s = c .before .before in
-    let f : ℕ → ℕ = λ j. number (bytes .add (byte (s .args .x)) (points (s .args .nodes .now) j)) in
-    filled-all f (l .out) (l .i) (l .inv .2) (omega arith) ∙ ap (λ n. listed n f) (omega arith)
+    written-all _ (l .i) (s .args .out .now) (l .out) (l .inv) (omega arith)
+    ∙ ap (λ n. listed n (λ j. number (bytes .add (byte (s .args .x)) (points (s .args .nodes .now) j)))) (s .pre)
 
 pub differences-spec : {M : Type 1} → statement M
 differences-spec =

@@ -7,7 +7,7 @@ use native.Mathlib.Omega.{arith}
 use lib.ListN.{length, getD, take, drop, replicate}
 use lib.Seq.{length-take-le}
 use Rattle.coefficients.specs.Weights.{differencesOf, Divisors, weightsFrom}
-use Rattle.coefficients.proofs.Lists.{front-fits, front}
+use Rattle.lists.proofs.Lent.{front-fits, front}
 use Rattle.coefficients.proofs.Lagrange.{differences-length, divisors, weights-from}
 use borrow.Author.Needs.{needs}
 use Rattle.coefficients.proofs.weights.Statement.{statement}
@@ -32,7 +32,7 @@ lent : (c : tie.After-differences)
     → let nodes = c .before .before .before .before .before .args .nodes .now in
     take (length nodes) (c .differences .last .1 .1 .0 ++ drop (length nodes) (replicate 24 0))
     ≡ differencesOf nodes (c .before .before .before .before .before .args .at)
-lent c = front (c .differences .last .1 .1 .0) (written c) ∙ c .differences .ensures
+lent c = front (c .differences .last .1 .1 .0) _ (written c) ∙ c .differences .ensures
 
 -- The nodes are bytes.
 small : (c : tie.After-differences) (i : ℕ)
@@ -40,7 +40,7 @@ small : (c : tie.After-differences) (i : ℕ)
 small c i = omega (arith, c .before .before .before .before .shared-slice-known .given i)
 
 array-share-prefix-d : tie.Need-array-share-prefix-d
-array-share-prefix-d c = front-fits (c .before .differences .last .1 .1 .0) (written (c .before))
+array-share-prefix-d c = front-fits (c .before .differences .last .1 .1 .0) _ (written (c .before))
 
 slice-aggregate-quotients : tie.Need-slice-aggregate-quotients
 slice-aggregate-quotients c = sym (length-take-le _ _ (array-share-prefix-d (c .before)))

@@ -1,11 +1,7 @@
 -- `document::accepts_shape` meets its contract: each return has found a condition that fails, the last one all that hold.
 use native.Mathlib.Omega.{arith}
-use lib.Dec.{leb}
-use mathlib.Core.Path.{_≡_, sym, _∙_}
-use mathlib.Core.Bool.{Bool}
-use Prim.Native.Nat.{ℕ, _≤_}
+use mathlib.Core.Path.{sym}
 use borrow.Author.Needs.{needs}
-use Rattle.document.specs.Profile.{ShapeAccepted, shapeAccepted}
 use Rattle.document.proofs.Decides.{decides-false}
 use Rattle.document.proofs.Accepts.{decides-shape, shape-left}
 use Rattle.document.proofs.accepts_shape.Statement.{statement}

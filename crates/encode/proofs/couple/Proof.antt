@@ -1,7 +1,6 @@
 -- `encode::couple` meets its contract. The invariant: the pairs whose upper strip lies before z are coupled, all else is as
 -- it was.
 use mathlib.Core.Path.{_≡_, sym, subst, _∙_}
-use mathlib.Core.List.{List}
 use Prim.Native.Nat.{ℕ, _+_, _-_, _*_, _≤_, _<_, zero-le}
 use native.Mathlib.Omega.{arith}
 use borrow.Author.Needs.{needs}

@@ -1,11 +1,11 @@
 -- `encode::encode` meets its contract: each return is the answer of the tests that led there.
 use mathlib.Core.Path.{_≡_, sym, ap, _∙_}
-use Prim.Native.Nat.{ℕ, _*_, _≤_}
+use Prim.Native.Nat.{_*_, _≤_}
 use native.Mathlib.Nat.{mul-le-mul}
 use native.Mathlib.Omega.{arith}
 use borrow.Author.Needs.{needs}
 use Rattle.document.specs.declared.Profile.{Profile}
-use Rattle.document.specs.declared.Checked.the-variants.{Accepted as passes}
+use Rattle.document.specs.declared.Checked.the-variants.{Passed}
 use Rattle.document.specs.Profile.{Accepted, checkedOf}
 use Rattle.document.specs.Encoding.{coupled}
 use Rattle.document.proofs.Accepts.{accepted}
@@ -19,7 +19,7 @@ module _ (c : tie.After-checked2) where
   abbrev q : Profile
   q = c .checked2 .given .0 .0
 
-  passed : checkedOf (c .before .before .before .before .before .args .p) ≡ passes q
+  passed : checkedOf (c .before .before .before .before .before .args .p) ≡ Passed q
   passed = sym (c .before .before .new .ensures) ∙ c .checked2 .given .1
 
   sound : Accepted q

@@ -9,7 +9,7 @@ use lib.ListN.{length, take, drop, replicate}
 use lib.Seq.{length-take-le}
 use Rattle.strips.specs.Strips.{combinationOf}
 use Rattle.document.proofs.Bounds.{room, column-bound}
-use Rattle.coefficients.proofs.Lists.{front-fits, front}
+use Rattle.lists.proofs.Lent.{front-fits, front}
 use Rattle.coefficients.specs.Weights.{Different, Outside, denominatorsOf, weightsOf}
 use Rattle.encode.specs.Steps.{dataNodes}
 use Rattle.encode.proofs.Rows.{
@@ -81,12 +81,12 @@ module _ (c : tie.After-weights2) where
   written = ap length weights ∙ parity-weights k (start .args .j)
 
   lent : take k (c .weights2 .last .1 .1 .1 .0 ++ drop k (replicate 24 0)) ≡ weightsOf (dataNodes k) (start .args .j)
-  lent = front (c .weights2 .last .1 .1 .1 .0) written ∙ weights
+  lent = front (c .weights2 .last .1 .1 .1 .0) _ written ∙ weights
 
 array-share-prefix-weights : tie.Need-array-share-prefix-weights
 array-share-prefix-weights c =
     let w = c .before .before .before in
-    front-fits (w .weights2 .last .1 .1 .1 .0) (written w)
+    front-fits (w .weights2 .last .1 .1 .1 .0) _ (written w)
 
 slice-aggregate-combine : tie.Need-slice-aggregate-combine
 slice-aggregate-combine c = sym (length-take-le _ _ (array-share-prefix-weights (c .before)))

@@ -1,7 +1,7 @@
 -- `encode::put_rows` meets its contract. The invariant: the columns before node j are those of the base symbols.
 use mathlib.Core.Path.{_≡_, sym, ap, subst, _∙_}
-use mathlib.Core.List.{List, _++_}
-use Prim.Native.Nat.{ℕ, _+_, _-_, _*_, _≤_, _<_}
+use mathlib.Core.List.{_++_}
+use Prim.Native.Nat.{ℕ, _+_, _-_, _*_, _≤_}
 use native.Mathlib.Nat.{mul-assoc}
 use native.Mathlib.Omega.{arith}
 use borrow.Author.Needs.{needs}
@@ -11,7 +11,7 @@ use Rattle.document.specs.declared.Profile.{Profile}
 use Rattle.document.specs.Encoding.{baseAt, laidOut, plain}
 use Rattle.document.proofs.Bounds.{room, column-bound, array-bound}
 use Rattle.coefficients.specs.Weights.{denominatorsOf}
-use Rattle.coefficients.proofs.Lists.{front-fits, front}
+use Rattle.lists.proofs.Lent.{front-fits, front}
 use Rattle.coefficients.proofs.Lagrange.{denominators-length}
 use Rattle.encode.specs.Steps.{dataNodes}
 use Rattle.encode.proofs.Rows.{data-columns, data-length, first-columns, next-column, all-columns}
@@ -64,7 +64,7 @@ module _ (c : tie.After-data-denominators Inv-loop μ-loop) where
   written = ap length (c .data-denominators .ensures) ∙ denominators-length (dataNodes k) ∙ data-length k
 
   lent : take k (c .data-denominators .last .1 .0 ++ drop k (replicate 24 0)) ≡ denominatorsOf (dataNodes k)
-  lent = front (c .data-denominators .last .1 .0) written ∙ c .data-denominators .ensures
+  lent = front (c .data-denominators .last .1 .0) _ written ∙ c .data-denominators .ensures
 
 slice-relend-prefix-copy : tie.Need-slice-relend-prefix-copy Inv-loop μ-loop
 slice-relend-prefix-copy c =
@@ -130,7 +130,7 @@ part-put-parity-end c = inside c
 array-share-prefix-denominators : tie.Need-array-share-prefix-denominators Inv-loop μ-loop
 array-share-prefix-denominators c =
     let d = c .before .before .before .before .before .before .before .before in
-    front-fits (d .data-denominators .last .1 .0) (written d)
+    front-fits (d .data-denominators .last .1 .0) _ (written d)
 
 slice-aggregate-put-parity : tie.Need-slice-aggregate-put-parity Inv-loop μ-loop
 slice-aggregate-put-parity c = sym (length-take-le _ _ (array-share-prefix-denominators (c .before)))

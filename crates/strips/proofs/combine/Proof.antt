@@ -1,6 +1,6 @@
--- `strips::combine` meets its contract. The invariant: dst is the combination with the weights' digits from i on.
+-- `strips::combine` meets its contract. The invariant: dst is the combination with the weights' bits from i on.
 use mathlib.Core.Path.{_≡_, refl, sym, ap, ap₂, _∙_}
-use Prim.Native.Nat.{ℕ, _-_, _≤_}
+use Prim.Native.Nat.{ℕ, _≤_}
 use native.Mathlib.Omega.{arith}
 use lib.ListN.{length}
 use borrow.Author.Needs.{needs}
@@ -19,12 +19,12 @@ Inv-loop dst₀ src first stride weights zeros i₀ dst i =
 abbrev μ-loop : tie.MeasureT-loop
 μ-loop dst₀ src first stride weights zeros i₀ dst i = i
 
-clear-requires : tie.Need-clear-requires Inv-loop μ-loop
-clear-requires c κs = tt
+fill-requires : tie.Need-fill-requires Inv-loop μ-loop
+fill-requires c κs = tt
 
 loop-holds : tie.Need-loop-holds Inv-loop μ-loop
 loop-holds c =
-    let k = c .before .before .clear in
+    let k = c .before .before .fill in
     let w = c .before .before .before .before in
     let g = w .before .before .before .args in (
       omega arith,
@@ -59,7 +59,7 @@ loop-again c =
     let g = w .before .before .before .args in (
       omega arith,
       c .before .before .plane .kept .0 ∙ l .inv .1,
-      horner (l .i) (g .weights .now) (g .src .now) (g .first) (g .stride) (length (k .clear .last .0)) (l .dst) _
+      horner (l .i) (g .weights .now) (g .src .now) (g .first) (g .stride) (length (k .fill .last .0)) (l .dst) _
           (λ q. omega (arith, w .shared-slice-known2 .given q)) (omega arith) (l .inv .2)
           (c .before .before .plane .ensures),
     )
@@ -71,7 +71,7 @@ returns : tie.Need-returns Inv-loop μ-loop
 returns c =
     let l = c .before .loop in
     let g = c .before .before .before .before .before .before .before .before .before .args in
-    let k = c .before .before .before .before .clear in
+    let k = c .before .before .before .before .fill in
     let e : l .i ≡ 0 = omega arith in
     l .inv .2
     ∙ ap₂ (λ (i n : ℕ). combinationOf (shiftedBy i (g .weights .now)) (g .src .now) (g .first) (g .stride) n) e
@@ -84,7 +84,7 @@ combine-spec =
     (tie.spec
     Inv-loop
     μ-loop
-    clear-requires
+    fill-requires
     loop-holds
     sub-i
     slice-aggregate-plane

@@ -6,7 +6,7 @@ use borrow.Author.Needs.{needs}
 use lib.ListN.{length, getD}
 use Rattle.lists.specs.Listed.{listed}
 use Rattle.lists.proofs.Listed.{listed-getD}
-use Rattle.strips.proofs.Written.{Written, written-none, written-all, written-more}
+use Rattle.lists.proofs.Written.{Written, written-none, written-all, written-more}
 use Rattle.strips.proofs.copy.Statement.{statement}
 use Rattle.strips.proofs.copy.Tie as tie
 

@@ -6,7 +6,7 @@ use borrow.Author.Needs.{needs}
 use lib.ListN.{length, getD}
 use Rattle.gf256.specs.Field.{_⊕_, double}
 use Rattle.strips.specs.Planes.{sumFour, doubledFour}
-use Rattle.strips.proofs.Written.{Written, written-none, written-all, written-next, written-more}
+use Rattle.lists.proofs.Written.{Written, written-none, written-all, written-next, written-more}
 use Rattle.strips.proofs.double_add_four.Statement.{statement}
 use Rattle.strips.proofs.double_add_four.Tie as tie
 

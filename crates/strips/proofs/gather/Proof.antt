@@ -8,7 +8,7 @@ use Prim.Native.Nat.{_≤_, zero-le}
 use lib.ListN.{take, length-set}
 use lib.Seq.{take-all}
 use mathlib.Core.List.{List}
-use Rattle.strips.specs.Planes.{digitsAt, offsetsOf}
+use Rattle.strips.specs.Planes.{bitsAt, offsetsOf}
 use Rattle.strips.proofs.Gathered.{gathered}
 use Rattle.strips.proofs.gather.Statement.{statement}
 use Rattle.strips.proofs.gather.Tie as tie
@@ -16,13 +16,13 @@ use Rattle.strips.proofs.gather.Tie as tie
 abbrev Inv-loop : tie.InvT-loop
 Inv-loop at₀ weights i first stride count₀ q₀ at count q =
     (q ≤ length weights) × (count ≤ q) × (length at ≡ length at₀)
-    × (take count at ≡ offsetsOf (digitsAt i (take q weights)) first stride)
+    × (take count at ≡ offsetsOf (bitsAt i (take q weights)) first stride)
 
 abbrev μ-loop : tie.MeasureT-loop
 μ-loop at₀ weights i first stride count₀ q₀ at count q = length weights - q
 
 loop-holds : tie.Need-loop-holds Inv-loop μ-loop
-unfolding offsetsOf digitsAt
+unfolding offsetsOf bitsAt
 loop-holds c = (zero-le, zero-le, refl, refl)
 
 mul-at : tie.Need-mul-at Inv-loop μ-loop
@@ -78,7 +78,7 @@ returns c =
     let g = c .before .before .args in (
       omega arith,
       l .inv .3
-          ∙ ap (λ (ws : List ℕ). offsetsOf (digitsAt (g .i) ws) (g .first) (g .stride))
+          ∙ ap (λ (ws : List ℕ). offsetsOf (bitsAt (g .i) ws) (g .first) (g .stride))
           (take-all (l .q) (g .weights .now) (omega arith)),
     )
 

@@ -4,16 +4,16 @@ use mathlib.Core.List.{List}
 use Prim.Native.Nat.{ℕ}
 use native.Mathlib.Omega.{arith}
 use lib.ListN.{length, replicate}
-use Rattle.strips.specs.Strips.{Within}
-use Rattle.strips.specs.Planes.{digitsAt, offsetsOf, Lent}
+use Rattle.strips.specs.Strips.{SourcesFit}
+use Rattle.strips.specs.Planes.{bitsAt, offsetsOf, Lent}
 use Rattle.strips.proofs.Gathered.{gathered-inside, plane-gathered}
 use borrow.Author.Needs.{needs}
 use Rattle.strips.proofs.plane.Statement.{statement}
 use Rattle.strips.proofs.plane.Tie as tie
 
 lent : (i : ℕ) (ws src zeros : List ℕ) (first stride : ℕ) {os : List ℕ} {n : ℕ}
-    → Within first stride (length ws) n (length src) → zeros ≡ replicate 2048 0
-    → os ≡ offsetsOf (digitsAt i ws) first stride → Lent zeros src os n
+    → SourcesFit first stride (length ws) n (length src) → zeros ≡ replicate 2048 0
+    → os ≡ offsetsOf (bitsAt i ws) first stride → Lent zeros src os n
 lent i ws src zeros first stride {os} {n} w z e =
     record { blank = z; short = w .short; inside = rw e (gathered-inside i ws first stride n (length src) (w .reach)) }
 

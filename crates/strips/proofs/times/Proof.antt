@@ -13,7 +13,7 @@ use Rattle.strips.proofs.Byte.{mul-turn}
 use Rattle.strips.proofs.times.Statement.{statement}
 use Rattle.strips.proofs.times.Tie as tie
 
--- the turn's branch adds x times the lowest digit of y
+-- the turn's branch adds x times the lowest bit of y
 odd : (r x y : ℕ) → x < 256 → bitAnd y 1 ≡ 1 → r ⊕ x ≡ r ⊕ (x ⊗ (y % 2))
 odd r x y h e =
     ap (λ (z : ℕ). r ⊕ z) (sym (ap (λ (d : ℕ). x ⊗ d) (sym (and-mask y 1) ∙ e) ∙ R.mul-one x h))

@@ -1,5 +1,5 @@
 -- `Profile::constant` meets its contract: t is a byte.
-use mathlib.Core.Path.{_≡_, sym}
+use mathlib.Core.Path.{sym}
 use native.Mathlib.Omega.{arith}
 use Rattle.document.proofs.Bytes.{number-byte}
 use Rattle.document.specs.Encoding.{constantOf}

@@ -1,18 +1,18 @@
--- `strips::clear` meets its contract.
+-- `strips::fill` meets its contract.
 use mathlib.Core.Path.{refl}
 use Prim.Native.Nat.{_-_}
 use native.Mathlib.Omega.{arith}
 use borrow.Author.Needs.{needs}
 use lib.ListN.{length}
-use Rattle.strips.proofs.Written.{Written, written-none, written-all, written-more}
-use Rattle.strips.proofs.clear.Statement.{statement}
-use Rattle.strips.proofs.clear.Tie as tie
+use Rattle.lists.proofs.Written.{Written, written-none, written-all, written-more}
+use Rattle.strips.proofs.fill.Statement.{statement}
+use Rattle.strips.proofs.fill.Tie as tie
 
 abbrev Inv-loop : tie.InvT-loop
-Inv-loop dst₀ b₀ dst b = Written (λ b. 0) b dst₀ dst
+Inv-loop dst₀ value b₀ dst b = Written (λ b. value) b dst₀ dst
 
 abbrev μ-loop : tie.MeasureT-loop
-μ-loop dst₀ b₀ dst b = length dst₀ - b
+μ-loop dst₀ value b₀ dst b = length dst₀ - b
 
 loop-holds : tie.Need-loop-holds Inv-loop μ-loop
 loop-holds c = written-none _ _
@@ -40,8 +40,8 @@ returns c =
     let l = c .before .loop in
     written-all _ (l .b) _ (l .dst) (l .inv) (omega arith)
 
-pub clear-spec : {M : Type 1} → statement M
-clear-spec =
+pub fill-spec : {M : Type 1} → statement M
+fill-spec =
     tie.close
     (tie.spec
     Inv-loop

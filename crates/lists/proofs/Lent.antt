@@ -1,0 +1,19 @@
+-- A list whose front of k entries was lent and written: e is what stands there now, before the rest.
+use mathlib.Core.Path.{_≡_, ap, _∙_}
+use mathlib.Core.List.{List, _++_}
+use Prim.Native.Nat.{ℕ, _≤_, _<_}
+use native.Mathlib.Omega.{arith}
+use lib.ListN.{length, length-append, length-set, take, set}
+use lib.Seq.{set-append-left, take-at}
+
+module _ {k : ℕ} (e rest : List ℕ) (h : length e ≡ k) where
+  pub front-fits : k ≤ length (e ++ rest)
+  front-fits = rw length-append (omega arith)
+
+  pub front : take k (e ++ rest) ≡ e
+  front = take-at e rest k h
+
+  -- an entry of the front stored anew
+  pub front-set : (q v : ℕ) → q < k → take k (set (e ++ rest) q v) ≡ set e q v
+  front-set q v l =
+      ap (take k) (set-append-left e rest q v (omega arith)) ∙ take-at (set e q v) rest k (length-set e q v ∙ h)
