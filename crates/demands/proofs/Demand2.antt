@@ -7,7 +7,6 @@ use native.Mathlib.Omega.{arith}
 use Rattle.algebra.specs.Polynomial.{eval}
 use Rattle.algebra.specs.RowCode.{Choice, Codeword}
 use Rattle.algebra.proofs.RowCode.{determined}
-use Rattle.document.specs.declared.Numbers.{Numbers}
 use Rattle.document.specs.declared.Profile.{Profile}
 use Rattle.document.specs.declared.Place.{Place}
 use Rattle.document.specs.declared.Answer.the-variants.{Done}
@@ -101,7 +100,8 @@ module _ (p : Profile) where
       -- No other list is.
       pub encoded-only : x ≡ encoded p d
       unfolding encoded
-      encoded-only = laid-bytes p n x (D .stored .size) (D .stored .bytes-only) ∙ laid-ext p n (byteAt p x) (storedAt d) same
+      encoded-only =
+          laid-bytes p n x (D .stored .size) (D .stored .bytes-only) ∙ laid-ext p n (byteAt p x) (storedAt d) same
         where
           same : (b j i : ℕ) → b < S → j < n → i < A → byteAt p x b (place j i) ≡ storedAt d b (place j i)
           same b j i l h r =

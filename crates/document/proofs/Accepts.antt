@@ -45,7 +45,10 @@ decides-shape n k A =
       whole-groups = h .1 .1 .1 .1 .1 .0;
       few-nodes = h .1 .1 .1 .1 .1 .1;
     })
-    (λ s. (s .some-data, (s .some-parity, (s .two-rows, (s .few-rows, (s .enough-parity, (s .whole-groups, s .few-nodes)))))))
+    (λ s. (
+      s .some-data,
+      (s .some-parity, (s .two-rows, (s .few-rows, (s .enough-parity, (s .whole-groups, s .few-nodes))))),
+    ))
 
 pub decides-constant : (t : ℕ) → Decides (constantAccepted t) ((2 ≤ t) × (t ≤ 255))
 unfolding constantAccepted

@@ -77,7 +77,8 @@ module _ (p : Profile) where
 
     -- a list with these bytes at each strip is the array
     pub laid-only : (x : List ℕ) → length x ≡ m * A * S
-        → ((z b : ℕ) → z < m * A → b < S → getD x (z * S + b) 0 ≡ number (f b (place (z / A) (z % A)))) → x ≡ laidOut p m f
+        → ((z b : ℕ) → z < m * A → b < S → getD x (z * S + b) 0 ≡ number (f b (place (z / A) (z % A))))
+        → x ≡ laidOut p m f
     laid-only x size h = ext-getD 0 x (laidOut p m f) (size ∙ sym laid-length) at
       where
         at : (e : ℕ) → e < length x → getD x e 0 ≡ getD (laidOut p m f) e 0
@@ -102,7 +103,8 @@ module _ (p : Profile) where
             let e : m * A * S + o ≡ (m * A + o / S) * S + o % S =
             omega (arith, add-mul (m * A) (o / S) S, div-add-mod' o S) in
             ap at-index e
-            ∙ ap₂ (λ (b z : ℕ). number (f b (place (z / A) (z % A)))) (digits-mod (m * A + o / S) (mod-lt o S>0)) (digits-div (m * A + o / S) (mod-lt o S>0))
+            ∙ ap₂ (λ (b z : ℕ). number (f b (place (z / A) (z % A)))) (digits-mod (m * A + o / S) (mod-lt o S>0))
+            (digits-div (m * A + o / S) (mod-lt o S>0))
             ∙ ap₂ (λ (j i : ℕ). number (f (o % S) (place j i))) (digits-div m r) (digits-mod m r)
 
   -- arrays with the same bytes at each place are equal
@@ -145,9 +147,9 @@ module _ (p : Profile) where
       → coupledAt p a q ≡ coupledAt p c q
   unfolding coupledAt
   coupled-ext a c q e h =
-      ap₂ (λ (u v : Byte). pick (ℕ-discrete (q .row .0) (localColumn A (q .node))) u
-      (pick (decLt (q .row .0) (localColumn A (q .node))) (u ⊕ v) (u ⊕ constantOf p (q .row .0) (localColumn A (q .node)) ⊗ v)))
-      e h
+      let i : ℕ = q .row .0 in
+      let l : ℕ = localColumn A (q .node) in
+      ap₂ (λ (u v : Byte). pick (ℕ-discrete i l) u (pick (decLt i l) (u ⊕ v) (u ⊕ constantOf p i l ⊗ v))) e h
 
   -- plain rows, then coupled, is encoded
   pub plain-coupled : Accepted p → (d : List ℕ) → coupled p (plain p d) ≡ encoded p d

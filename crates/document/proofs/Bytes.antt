@@ -53,4 +53,5 @@ number-inv a = refl
 
 -- different numbers below 256 are different bytes
 pub points-distinct : (n : ℕ) → n ≤ 256 → Distinct bytes n byte
-points-distinct n h i j l b e = omega (arith, sym (number-byte i (omega arith)) ∙ ap number e ∙ number-byte j (omega arith))
+points-distinct n h i j l b e =
+    omega (arith, sym (number-byte i (omega arith)) ∙ ap number e ∙ number-byte j (omega arith))

@@ -1,6 +1,6 @@
--- 'The field and the row code', 'Coupling': the array that document 01 defines. Each rule holds at each byte offset b of
--- a strip on its own. demands/specs/Encoding.antt has the same array with a polynomial in place of Lagrange's formula, and
--- the two are shown to be one.
+-- 'The field and the row code', 'Coupling': the array that document 01 defines. Each rule holds at each byte offset b
+-- of a strip on its own. demands/specs/Encoding.antt has the same array with a polynomial in place of Lagrange's
+-- formula, and the two are shown to be one.
 --
 -- start p q         : where the strip of the place q starts in memory
 -- byteAt p x b q    : byte b of that strip, in data or in an array x

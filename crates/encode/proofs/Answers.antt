@@ -46,4 +46,7 @@ module _ (p : Numbers) (d x : List ℕ) where
       done room y f =
           sym (tried-accepted p _ _ _ q e
           ∙ simp (eq-eqb _ _ (rw same at size), eq-eqb _ _ (rw same at room))
-          (ap (λ (z : List ℕ). (Done 0, z)) (sym (f ∙ plain-coupled q (accepted p q e .1) d ∙ ap (λ (r : Profile). encoded r d) same))))
+          (ap (λ (z : List ℕ). (Done 0, z)) (sym (f ∙ made))))
+        where
+          made : coupled q (plain q d) ≡ encoded (profileOf p) d
+          made = plain-coupled q (accepted p q e .1) d ∙ ap (λ (r : Profile). encoded r d) same

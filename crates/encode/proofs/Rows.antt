@@ -16,6 +16,7 @@ use Rattle.strips.specs.Strips.{combinationOf}
 use Rattle.document.specs.declared.Profile.{Profile}
 use Rattle.document.specs.declared.Place.{Place}
 use Rattle.document.specs.Profile.{Accepted}
+use Rattle.document.specs.Places.{place}
 use Rattle.document.specs.Bytes.{bytes, Byte, byte, number}
 use Rattle.document.specs.Encoding.{start, byteAt, baseAt, laidOut, columnOf}
 use Rattle.document.proofs.Bytes.{number-byte, byte-number}
@@ -24,6 +25,7 @@ use Rattle.coefficients.proofs.Lagrange.{weights-length, weights-at}
 use Rattle.coefficients.proofs.Combination.{sum-bytes}
 use Rattle.algebra.proofs.Weight.{weight-ext}
 use Rattle.encode.specs.Steps.{dataNodes}
+use Rattle.document.proofs.Bounds.{A>0}
 use Rattle.document.proofs.Rows.{row-data}
 use Rattle.document.proofs.Arrays.{laid-length, laid-only, laid-next}
 
@@ -33,25 +35,31 @@ module _ (p : Profile) (d : List ℕ) where
   -- the data are the first k columns
   pub data-columns : Accepted p → length d ≡ k * A * S → ((e : ℕ) → getD d e 0 < 256) → d ≡ laidOut p k (baseAt p d)
   unfolding byteAt start
-  data-columns acc size small =
-      laid-only p k (baseAt p d) d size (λ z b h l.
-      sym (ap number (row-data p d b (z % A) acc (z / A) (div-lt-iff-lt-mul (omega (arith, acc .shape .two-rows)) .1 h))
-      ∙ ap (λ (y : ℕ). number (byte (getD d (y * S + b) 0))) (div-add-mod' z A) ∙ number-byte (getD d (z * S + b) 0) (small (z * S + b))))
+  data-columns acc size small = laid-only p k (baseAt p d) d size at
+    where
+      at : (z b : ℕ) → z < k * A → b < S → getD d (z * S + b) 0 ≡ number (baseAt p d b (place (z / A) (z % A)))
+      at z b h l =
+          sym (ap number (row-data p d b (z % A) acc (z / A) (div-lt-iff-lt-mul (A>0 p acc) .1 h))
+          ∙ ap (λ (y : ℕ). number (byte (getD d (y * S + b) 0))) (div-add-mod' z A)
+          ∙ number-byte (getD d (z * S + b) 0) (small (z * S + b)))
 
   -- a parity column is the combination of the data columns by the weights of its node
   pub parity-column : (j : ℕ) (ws : List ℕ) → length ws ≡ k
       → ((q : ℕ) → q < k → getD ws q 0 ≡ number (weight bytes k byte q (byte j)))
       → combinationOf ws d 0 (A * S) (A * S) ≡ columnOf p (baseAt p d) j
   unfolding combinationOf columnOf baseAt byteAt start
-  parity-column j ws size at =
-      listed-ext (A * S) _ _ (λ o l.
-      sum-bytes ws d (0 + o) (A * S)
-      ∙ ap (λ (m : ℕ). number (sum bytes m (λ q. bytes .mul (byte (getD d (0 + o + q * (A * S)) 0)) (byte (getD ws q 0))))) size
-      ∙ ap number (sum-ext bytes k (λ q h.
-      ap₂ (bytes .mul) (ap (λ (e : ℕ). byte (getD d e 0)) (where-is q o)) (ap byte (at q h) ∙ byte-number (weight bytes k byte q (byte j))))))
+  parity-column j ws size at = listed-ext (A * S) _ _ (λ o l. sum-bytes ws d (0 + o) (A * S) ∙ ap number (sums o))
     where
       where-is : (q o : ℕ) → 0 + o + q * (A * S) ≡ (q * A + o / S) * S + o % S
       where-is q o = omega (arith, mul-assoc q A S, add-mul (q * A) (o / S) S, div-add-mod' o S)
+
+      sums : (o : ℕ)
+          → sum bytes (length ws) (λ q. bytes .mul (byte (getD d (0 + o + q * (A * S)) 0)) (byte (getD ws q 0)))
+          ≡ baseAt p d (o % S) (place j (o / S))
+      sums o =
+          rw size (sum-ext bytes k (λ q h.
+          ap₂ (bytes .mul) (ap (λ (e : ℕ). byte (getD d e 0)) (where-is q o))
+          (ap byte (at q h) ∙ byte-number (weight bytes k byte q (byte j)))))
 
 -- ---- column after column
 module _ (p : Profile) (f : ℕ → Place → Byte) where

@@ -23,6 +23,7 @@ partnerStrip A z = (z / A / A * A + z % A) * A + z / A % A
 -- The upper strip of a pair has its row above the diagonal; the constant is that of the lower strip.
 unfoldable pub pairCoupled : Profile → ℕ → List ℕ → List ℕ
 pairCoupled p z x =
-    cond (ltb (z % p .a) (z / p .a % p .a))
-    (coupledStrips (number (constantOf p (z / p .a % p .a) (z % p .a))) (z * p .s) (partnerStrip (p .a) z * p .s) (p .s) x)
-    x
+    let A : ℕ = p .a in
+    let S : ℕ = p .s in
+    let t : ℕ = number (constantOf p (z / A % A) (z % A)) in
+    cond (ltb (z % A) (z / A % A)) (coupledStrips t (z * S) (partnerStrip A z * S) S x) x

@@ -1,5 +1,5 @@
--- `encode::couple` meets its contract. The invariant: the pairs whose upper strip lies before z are coupled, all else is as
--- it was.
+-- `encode::couple` meets its contract. The invariant: the pairs whose upper strip lies before z are coupled, all else
+-- is as it was.
 use mathlib.Core.Path.{_≡_, sym, subst, _∙_}
 use Prim.Native.Nat.{ℕ, _+_, _-_, _*_, _≤_, _<_, zero-le}
 use native.Mathlib.Omega.{arith}
@@ -48,7 +48,8 @@ loop-again c =
     let h = c .before .before .before .before .loop-test .taken in (
       omega (arith, h),
       subst (Mixed (s .args .p) (s .args .x .now) (l .loop .z + 1)) (sym (c .before .before .couple-strip .ensures))
-          (next-coupled (s .args .p) (s .pre .0) (s .args .x .now) (small k) (l .loop .z) h (l .loop .x) (l .loop .inv .1)),
+          (next-coupled (s .args .p) (s .pre .0) (s .args .x .now) (small k) (l .loop .z) h (l .loop .x)
+          (l .loop .inv .1)),
     )
 
 same-length : tie.Need-same-length Inv-loop μ-loop

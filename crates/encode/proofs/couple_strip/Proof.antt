@@ -12,7 +12,7 @@ use Rattle.document.specs.Encoding as E
 use Rattle.document.specs.Encoding.{constantOf}
 use Rattle.document.proofs.Bounds.{A>0, room, place-within, partner-within}
 use Rattle.encode.specs.Steps.{partnerStrip}
-use Rattle.encode.proofs.Pairs.{partner-before, strip-start, partner-start, upper-pair, no-upper}
+use Rattle.encode.proofs.Partners.{partner-before, strip-start, partner-start, upper-pair, no-upper}
 use Rattle.encode.proofs.couple_strip.Statement.{statement}
 use Rattle.encode.proofs.couple_strip.Tie as tie
 
@@ -76,8 +76,10 @@ start-requires c κs =
 start-requires-2 : tie.Need-start-requires-2
 start-requires-2 c κs =
     let q = c .before .before .before .before .before .before in
-    let s = q .before .before in
-    (s .pre .0, rw (c .before .before .partner .ensures) (partner-within (s .args .p) (s .pre .0) (q .place .result) (within q)))
+    let s = q .before .before in (
+      s .pre .0,
+      rw (c .before .before .partner .ensures) (partner-within (s .args .p) (s .pre .0) (q .place .result) (within q)),
+    )
 
 constant-requires : tie.Need-constant-requires
 constant-requires c κs = search needs
@@ -104,7 +106,8 @@ returns c =
 returns-2 : tie.Need-returns-2
 returns-2 c =
     let s = c .before .before .before .before .before in
-    sym (no-upper (s .args .p) (s .args .z) (rw (c .before .before .before .place .ensures) at (c .if1 .left)) (s .args .x .now))
+    let h = rw (c .before .before .before .place .ensures) at (c .if1 .left) in
+    sym (no-upper (s .args .p) (s .args .z) h (s .args .x .now))
 
 pub couple-strip-spec : {M : Type 1} → statement M
 couple-strip-spec =

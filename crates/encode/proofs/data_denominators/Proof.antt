@@ -24,14 +24,17 @@ slice-aggregate-denominators c = sym (ap length (nodes (c .before)) ∙ data-len
 denominators-requires : tie.Need-denominators-requires
 denominators-requires c κs =
     let e = nodes (c .before .before) in
-    let s = c .before .before .before .before in
-    (subst Different (sym e) (data-different (s .args .k) (s .pre .0)), s .pre .1 ∙ sym (ap length e ∙ data-length (s .args .k)))
+    let s = c .before .before .before .before in (
+      subst Different (sym e) (data-different (s .args .k) (s .pre .0)),
+      s .pre .1 ∙ sym (ap length e ∙ data-length (s .args .k)),
+    )
 
 same-length : tie.Need-same-length
 same-length c = search needs
 
 returns : tie.Need-returns
-returns c = c .before .before .denominators .ensures ∙ ap denominatorsOf (nodes (c .before .before .before .before .before))
+returns c =
+    c .before .before .denominators .ensures ∙ ap denominatorsOf (nodes (c .before .before .before .before .before))
 
 pub data-denominators-spec : {M : Type 1} → statement M
 data-denominators-spec =

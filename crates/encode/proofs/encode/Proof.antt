@@ -1,7 +1,7 @@
 -- `encode::encode` meets its contract: each return is the answer of the tests that led there.
 use mathlib.Core.Path.{_≡_, sym, ap, _∙_}
 use Prim.Native.Nat.{_*_, _≤_}
-use native.Mathlib.Nat.{mul-le-mul}
+use native.Mathlib.Nat.{mul-le-mul-right}
 use native.Mathlib.Omega.{arith}
 use borrow.Author.Needs.{needs}
 use Rattle.document.specs.declared.Profile.{Profile}
@@ -25,10 +25,12 @@ module _ (c : tie.After-checked2) where
   sound : Accepted q
   sound = accepted (c .before .before .before .before .before .args .p) q passed .1
 
-  data-bounds : (q .k * q .a ≤ 96) × (q .k * q .a * q .s ≤ 49152)
-  data-bounds =
-      let few : q .k * q .a ≤ 96 = mul-le-mul {n₁ = q .k} {m₁ = q .a} {n₂ = 24} {m₂ = 4} (omega (arith, sound .shape)) (sound .shape .few-rows) in
-      (few, mul-le-mul {n₁ = q .k * q .a} {m₁ = q .s} {n₂ = 96} {m₂ = 512} few (sound .short))
+  -- the data are smaller than the array
+  data-strips : q .k * q .a ≤ q .n * q .a
+  data-strips = mul-le-mul-right (q .a) (omega (arith, sound .shape .some-parity))
+
+  data-bytes : q .k * q .a * q .s ≤ q .n * q .a * q .s
+  data-bytes = mul-le-mul-right (q .s) data-strips
 
 new-requires : tie.Need-new-requires
 new-requires c κs = search needs
@@ -40,10 +42,10 @@ enum-known-checked-2 : tie.Need-enum-known-checked-2
 enum-known-checked-2 c = search needs
 
 mul-if1 : tie.Need-mul-if1
-mul-if1 c = omega (arith, data-bounds (c .before .before))
+mul-if1 c = let k = c .before .before in omega (arith, data-strips k, strips-bound (q k) (sound k))
 
 mul-if1-2 : tie.Need-mul-if1-2
-mul-if1-2 c = omega (arith, data-bounds (c .before .before .before))
+mul-if1-2 c = let k = c .before .before .before in omega (arith, data-bytes k, array-bound (q k) (sound k))
 
 returns : tie.Need-returns
 returns c =
@@ -68,8 +70,10 @@ put-rows-requires c κs =
 
 couple-requires : tie.Need-couple-requires
 couple-requires c κs =
-    let r = c .before .before .before in
-    (sound (c .before .before .before .before .before .before .before .before .before .before .before .before), r .put-rows .kept .0 ∙ r .before .before .if2 .left)
+    let r = c .before .before .before in (
+      sound (r .before .before .before .before .before .before .before .before .before),
+      r .put-rows .kept .0 ∙ r .before .before .if2 .left,
+    )
 
 returns-3 : tie.Need-returns-3
 returns-3 c = profile-refused _ _ _ _ (sym (c .before .before .before .new .ensures) ∙ c .before .checked .given .1)

@@ -25,7 +25,8 @@ use Rattle.encode.proofs.put_parity.Statement.{statement}
 use Rattle.encode.proofs.put_parity.Tie as tie
 
 nodes : (c : tie.After-first-nodes)
-    → take (c .before .before .before .before .args .p .k) (c .first-nodes .result) ≡ dataNodes (c .before .before .before .before .args .p .k)
+    → let k = c .before .before .before .before .args .p .k in
+    take k (c .first-nodes .result) ≡ dataNodes k
 nodes c =
     let s = c .before .before .before .before in
     data-nodes (s .args .p .k) (c .first-nodes .ensures) (omega (arith, s .pre .0 .0 .shape))
@@ -99,7 +100,9 @@ combine-requires c κs =
     record {
       few = omega (arith, e, s .pre .0 .0 .shape);
       short = omega (arith, s .pre .1 .0 .1, column-bound p (s .pre .0 .0));
-      reach = λ q h. omega (arith, room q (p .k) (p .a * p .s) (omega (arith, e)), s .pre .1 .0, mul-assoc (p .k) (p .a) (p .s));
+      reach = λ q h.
+          let r = room q (p .k) (p .a * p .s) (omega (arith, e)) in
+          omega (arith, r, s .pre .1 .0, mul-assoc (p .k) (p .a) (p .s));
     }
 
 same-length : tie.Need-same-length
@@ -113,7 +116,8 @@ returns c =
     let ws = weightsOf (dataNodes (p .k)) (s .args .j) in
     c .before .before .combine .ensures
     ∙ ap₂ (λ (l : List ℕ) (m : ℕ). combinationOf l (s .args .input .now) 0 (p .a * p .s) m) (lent w) (s .pre .1 .0 .1)
-    ∙ parity-column p (s .args .input .now) (s .args .j) ws (parity-weights (p .k) (s .args .j)) (parity-weight (p .k) (s .args .j))
+    ∙ parity-column p (s .args .input .now) (s .args .j) ws (parity-weights (p .k) (s .args .j))
+    (parity-weight (p .k) (s .args .j))
 
 pub put-parity-spec : {M : Type 1} → statement M
 put-parity-spec =

@@ -92,7 +92,14 @@ loop-holds c =
       omega arith,
       omega (arith, s .pre .0 .shape .some-parity),
       length-append y rest
-          ∙ omega (arith, ap length (c .before .before .copy .ensures), s .pre .1, length-drop first (s .args .array .now), within s, mul-assoc (p .k) (p .a) (p .s)),
+          ∙ omega (
+            arith,
+            ap length (c .before .before .copy .ensures),
+            s .pre .1,
+            length-drop first (s .args .array .now),
+            within s,
+            mul-assoc (p .k) (p .a) (p .s),
+          ),
       first-columns p (baseAt p x) (p .k) y rest
           (c .before .before .copy .ensures
           ∙ data-columns p x (s .pre .0) (s .pre .1 .0) (λ e. omega (arith, d .shared-slice-known .given e))),
@@ -107,7 +114,9 @@ module _ (c : tie.In-loop Inv-loop μ-loop) where
   p = start .args .p
 
   fits : c .before .loop .j * (p .a * p .s) + p .a * p .s ≤ p .n * p .a * p .s
-  fits = omega (arith, room (c .before .loop .j) (p .n) (p .a * p .s) (c .loop-test .taken), mul-assoc (p .n) (p .a) (p .s))
+  fits =
+      let r = room (c .before .loop .j) (p .n) (p .a * p .s) (c .loop-test .taken) in
+      omega (arith, r, mul-assoc (p .n) (p .a) (p .s))
 
   inside : c .before .loop .j * (p .a * p .s) + p .a * p .s ≤ length (c .before .loop .array)
   inside = omega (arith, fits, c .before .loop .inv .2)
@@ -178,7 +187,8 @@ returns c =
     let p = s .args .p in
     let f = baseAt p (s .args .input .now) in
     let e : l .j ≡ p .n = omega (arith, c .loop-test .left) in
-    all-columns p f (l .array) (l .inv .2) (subst (λ (j : ℕ). take (j * (p .a * p .s)) (l .array) ≡ laidOut p j f) e (l .inv .3))
+    all-columns p f (l .array) (l .inv .2)
+    (subst (λ (j : ℕ). take (j * (p .a * p .s)) (l .array) ≡ laidOut p j f) e (l .inv .3))
 
 pub put-rows-spec : {M : Type 1} → statement M
 put-rows-spec =
