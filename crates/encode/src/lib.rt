@@ -81,7 +81,7 @@ fn put_rows(array: &mut [u8], p: Profile, input: &[u8])
     let first = k * width;
     let mut denominators = [0u8; 24];
     data_denominators(k, &mut denominators[..k]);
-    strips::copy(&mut array[..first], input);
+    strips::copy(&mut array[..first], input, 0);
     let mut j = k;
     while j < n {
         let from = j * width;

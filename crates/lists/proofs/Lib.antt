@@ -1,3 +1,4 @@
 pub mod Listed
 pub mod Written
+pub mod Patched
 pub mod Lent

@@ -1,9 +1,16 @@
--- A list by a function of the index.
+-- Lists by a function of the index.
 --
--- listed n f : f 0, f 1, .. f (n - 1)
+-- listed n f      : f 0, f 1, .. f (n - 1)
+-- patched at m f x : x with f b in the place of its entry at + b, for each b below m
+use mathlib.Core.Bool.{_&&_, cond}
 use mathlib.Core.List.{List, [], _∷_}
-use Prim.Native.Nat.{ℕ, zero, suc}
+use Prim.Native.Nat.{ℕ, zero, suc, _+_, _-_}
+use lib.Dec.{leb, ltb}
+use lib.ListN.{length, getD}
 
 unfoldable pub listed {ℓ} : {X : Type ℓ} → ℕ → (ℕ → X) → List X
 listed zero f = []
 listed (suc n) f = f 0 ∷ listed n (λ e. f (suc e))
+
+unfoldable pub patched : ℕ → ℕ → (ℕ → ℕ) → List ℕ → List ℕ
+patched at m f x = listed (length x) (λ p. cond (leb at p && ltb p (at + m)) (f (p - at)) (getD x p 0))

@@ -2,4 +2,5 @@ pub mod Byte
 pub mod Combination
 pub mod Gathered
 pub mod Passes
+pub mod Strip
 pub mod Coupled

@@ -4,14 +4,14 @@
 --                                         offset + stride, ..
 -- combinationOf ws src first stride len : the strip of len such bytes, from sources at first, first + stride, ..
 -- SourcesFit first stride count len size : what `combine` asks: count sources of len bytes lie within size bytes
--- inStrip from s p                      : place p lies in the strip of s bytes that starts at `from`
+-- stripAt x at s                        : the s bytes of x from `at` on
+-- addedScaled c at src x                : x with c times the bytes of src added from `at` on
+-- addedStrip at src x                   : x with the bytes of src added from `at` on
 -- coupledStrips t upper lower s x       : x with its strips at `upper` and `lower`, of s bytes each, coupled by t
-use mathlib.Core.Bool.{Bool, _&&_, cond}
 use mathlib.Core.List.{List, [], _∷_}
-use Prim.Native.Nat.{ℕ, _+_, _-_, _*_, _≤_, _<_}
-use lib.Dec.{leb, ltb}
+use Prim.Native.Nat.{ℕ, _+_, _*_, _≤_, _<_}
 use lib.ListN.{length, getD}
-use Rattle.lists.specs.Listed.{listed}
+use Rattle.lists.specs.Listed.{listed, patched}
 use Rattle.gf256.specs.Field.{_⊕_, _⊗_}
 
 -- 'all rules below hold at each byte offset of a strip on its own': one offset of a sum of weighted strips.
@@ -29,14 +29,19 @@ pub record SourcesFit (first stride count len size : ℕ) : Type 0 where
   pub short : len ≤ 2048
   pub reach : (q : ℕ) → q < count → first + q * stride + len ≤ size
 
-abbrev pub inStrip : ℕ → ℕ → ℕ → Bool
-inStrip from s p = leb from p && ltb p (from + s)
+unfoldable pub stripAt : List ℕ → ℕ → ℕ → List ℕ
+stripAt x at s = listed s (λ b. getD x (at + b) 0)
+
+-- Adding a strip, or a multiple of it, to the strip of its length that starts at `at`.
+unfoldable pub addedScaled : ℕ → ℕ → List ℕ → List ℕ → List ℕ
+addedScaled c at src x = patched at (length src) (λ b. getD x (at + b) 0 ⊕ (c ⊗ getD src b 0)) x
+
+unfoldable pub addedStrip : ℕ → List ℕ → List ℕ → List ℕ
+addedStrip at src x = patched at (length src) (λ b. getD x (at + b) 0 ⊕ getD src b 0) x
 
 -- 'Coupling', of one pair: in the upper strip the partner in the lower one is added to each byte, in the lower strip t
 -- times the partner in the upper one; all other bytes stay.
 unfoldable pub coupledStrips : ℕ → ℕ → ℕ → ℕ → List ℕ → List ℕ
 coupledStrips t upper lower s x =
-    listed (length x) (λ p.
-    cond (inStrip upper s p) (getD x p 0 ⊕ getD x (lower + (p - upper)) 0)
-    (cond (inStrip lower s p) (getD x p 0 ⊕ (t ⊗ getD x (upper + (p - lower)) 0))
-    (getD x p 0)))
+    patched lower s (λ b. getD x (lower + b) 0 ⊕ (t ⊗ getD x (upper + b) 0))
+    (patched upper s (λ b. getD x (upper + b) 0 ⊕ getD x (lower + b) 0) x)

@@ -4,7 +4,7 @@ ghost use Prim.Native.Nat.{ℕ, _+_, _*_, _^_, _<_, _≤_};
 ghost use lib.ListN.{length, take, drop, replicate};
 ghost use Rattle.gf256.specs.Field.{_⊗_, double};
 ghost use Rattle.lists.specs.Listed.{listed};
-ghost use Rattle.strips.specs.Strips.{combinationOf, coupledStrips, SourcesFit};
+ghost use Rattle.strips.specs.Strips.{combinationOf, SourcesFit, stripAt, addedScaled, addedStrip, coupledStrips};
 ghost use Rattle.strips.specs.Planes.{bitsAt, planeOf, offsetsOf, addedWith, doubledWith};
 ghost use Rattle.strips.specs.Planes.{partOf, addedFour, doubledFour, Alike, Lent};
 
@@ -35,19 +35,42 @@ fn times(c: u8, s: u8) -> u8
     r
 }
 
-// Copies a strip.
-pub fn copy(dst: &mut [u8], src: &[u8])
-    requires { ⌜ length (now src) ≡ length (now dst) ⌝ }
-    ensures { λ _. ⌜ now (dst .exit) ≡ now (src .entry) ⌝ }
+// Copies the strip of src that starts at `at`.
+pub fn copy(dst: &mut [u8], src: &[u8], at: usize)
+    requires { ⌜ at + length (now dst) ≤ length (now src) ⌝ }
+    ensures { λ _. ⌜ now (dst .exit) ≡ stripAt (now (src .entry)) at (length (now (dst .entry))) ⌝ }
 {
     let mut b: usize = 0;
-    while b < src.len() {
-        dst[b] = src[b];
+    while b < dst.len() {
+        dst[b] = src[at + b];
         b += 1;
     }
 }
 
-// Fills a strip with zeros.
+// Adds a strip to the strip of x that starts at `at`.
+fn add(x: &mut [u8], at: usize, src: &[u8])
+    requires { ⌜ at + length (now src) ≤ length (now x) ⌝ }
+    ensures { λ _. ⌜ now (x .exit) ≡ addedStrip at (now (src .entry)) (now (x .entry)) ⌝ }
+{
+    let mut b: usize = 0;
+    while b < src.len() {
+        x[at + b] = x[at + b] ^ src[b];
+        b += 1;
+    }
+}
+
+// Adds c times a strip to the strip of x that starts at `at`.
+fn add_scaled(x: &mut [u8], at: usize, src: &[u8], c: u8)
+    requires { ⌜ at + length (now src) ≤ length (now x) ⌝ }
+    ensures { λ _. ⌜ now (x .exit) ≡ addedScaled c at (now (src .entry)) (now (x .entry)) ⌝ }
+{
+    let mut b: usize = 0;
+    while b < src.len() {
+        x[at + b] = x[at + b] ^ times(c, src[b]);
+        b += 1;
+    }
+}
+
 // The same byte everywhere.
 pub fn fill(dst: &mut [u8], value: u8)
     ensures { λ _. ⌜ now (dst .exit) ≡ listed (length (now (dst .entry))) (λ b. value) ⌝ }
@@ -208,17 +231,16 @@ pub fn combine(dst: &mut [u8], src: &[u8], first: usize, stride: usize, weights:
     }
 }
 
-// Couples the strip at `upper` with the strip at `lower`, which lies before it.
+// Couples the upper strip of a pair with the lower one, which lies before it in memory. Both are copied out first, so
+// that no loop reads and writes the same slice.
 pub fn couple(x: &mut [u8], upper: usize, lower: usize, s: usize, t: u8)
-    requires { ⌜ (lower + s ≤ upper) × (upper + s ≤ length (now x)) ⌝ }
+    requires { ⌜ (s ≤ 512) × (lower + s ≤ upper) × (upper + s ≤ length (now x)) ⌝ }
     ensures { λ _. ⌜ now (x .exit) ≡ coupledStrips t upper lower s (now (x .entry)) ⌝ }
 {
-    let mut b: usize = 0;
-    while b < s {
-        let u = x[upper + b];
-        let v = x[lower + b];
-        x[upper + b] = u ^ v;
-        x[lower + b] = v ^ times(t, u);
-        b += 1;
-    }
+    let mut u = [0u8; 512];
+    let mut v = [0u8; 512];
+    copy(&mut u[..s], x, upper);
+    copy(&mut v[..s], x, lower);
+    add(x, upper, &v[..s]);
+    add_scaled(x, lower, &u[..s], t);
 }

@@ -86,8 +86,11 @@ constant-requires c κs = search needs
 
 couple-requires : tie.Need-couple-requires
 couple-requires c κs =
-    let b = c .before .before in
-    (omega (arith, upper-start b, lower-start b, apart b), omega (arith, upper-start b, inside b))
+    let b = c .before .before in (
+      q b .before .before .pre .0 .short,
+      omega (arith, upper-start b, lower-start b, apart b),
+      omega (arith, upper-start b, inside b),
+    )
 
 same-length : tie.Need-same-length
 same-length c = search needs

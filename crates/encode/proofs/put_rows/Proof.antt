@@ -7,6 +7,7 @@ use native.Mathlib.Omega.{arith}
 use borrow.Author.Needs.{needs}
 use lib.ListN.{length, take, drop, replicate, length-append, length-take, length-drop}
 use lib.Seq.{length-take-le}
+use Rattle.strips.proofs.Strip.{strip-all}
 use Rattle.document.specs.declared.Profile.{Profile}
 use Rattle.document.specs.Encoding.{baseAt, laidOut, plain}
 use Rattle.document.proofs.Bounds.{room, column-bound, array-bound}
@@ -74,11 +75,22 @@ slice-relend-prefix-copy c =
 slice-aggregate-copy : tie.Need-slice-aggregate-copy Inv-loop μ-loop
 slice-aggregate-copy c = sym (length-take-le _ _ (slice-relend-prefix-copy (c .before)))
 
-copy-requires : tie.Need-copy-requires Inv-loop μ-loop
-copy-requires c κs =
+-- the data's columns are as long as the input
+data-size : (c : tie.After-copy-arg Inv-loop μ-loop)
+    → let s = c .before .before .before .before .before .before .before in
+    let p = s .args .p in
+    length (s .args .input .now) ≡ length (take (p .k * (p .a * p .s)) (s .args .array .now))
+data-size c =
     let s = c .before .before .before .before .before .before .before in
     let p = s .args .p in
     s .pre .1 .0 ∙ mul-assoc (p .k) (p .a) (p .s) ∙ slice-aggregate-copy c
+
+copy-requires : tie.Need-copy-requires Inv-loop μ-loop
+copy-requires c κs = omega (arith, data-size c)
+
+copied : (c : tie.After-copy Inv-loop μ-loop)
+    → c .copy .last .0 ≡ c .before .before .before .before .before .before .before .before .args .input .now
+copied c = c .copy .ensures ∙ strip-all _ _ (sym (data-size (c .before)))
 
 loop-holds : tie.Need-loop-holds Inv-loop μ-loop
 loop-holds c =
@@ -94,14 +106,14 @@ loop-holds c =
       length-append y rest
           ∙ omega (
             arith,
-            ap length (c .before .before .copy .ensures),
+            ap length (copied (c .before .before)),
             s .pre .1,
             length-drop first (s .args .array .now),
             within s,
             mul-assoc (p .k) (p .a) (p .s),
           ),
       first-columns p (baseAt p x) (p .k) y rest
-          (c .before .before .copy .ensures
+          (copied (c .before .before)
           ∙ data-columns p x (s .pre .0) (s .pre .1 .0) (λ e. omega (arith, d .shared-slice-known .given e))),
     )
 

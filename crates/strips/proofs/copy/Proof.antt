@@ -1,23 +1,25 @@
 -- `strips::copy` meets its contract.
-use mathlib.Core.Path.{refl, sym, ap, _∙_}
-use Prim.Native.Nat.{ℕ, _-_}
+use mathlib.Core.Path.{refl}
+use Prim.Native.Nat.{_+_, _-_}
 use native.Mathlib.Omega.{arith}
 use borrow.Author.Needs.{needs}
 use lib.ListN.{length, getD}
-use Rattle.lists.specs.Listed.{listed}
-use Rattle.lists.proofs.Listed.{listed-getD}
 use Rattle.lists.proofs.Written.{Written, written-none, written-all, written-more}
+use Rattle.strips.specs.Strips.{stripAt}
 use Rattle.strips.proofs.copy.Statement.{statement}
 use Rattle.strips.proofs.copy.Tie as tie
 
 abbrev Inv-loop : tie.InvT-loop
-Inv-loop dst₀ src b₀ dst b = Written (λ b. getD src b 0) b dst₀ dst
+Inv-loop dst₀ src at b₀ dst b = Written (λ b. getD src (at + b) 0) b dst₀ dst
 
 abbrev μ-loop : tie.MeasureT-loop
-μ-loop dst₀ src b₀ dst b = length dst₀ - b
+μ-loop dst₀ src at b₀ dst b = length dst₀ - b
 
 loop-holds : tie.Need-loop-holds Inv-loop μ-loop
 loop-holds c = written-none _ _
+
+add-dst : tie.Need-add-dst Inv-loop μ-loop
+add-dst c = search needs
 
 shared-slice-read-dst : tie.Need-shared-slice-read-dst Inv-loop μ-loop
 shared-slice-read-dst c = search needs
@@ -41,12 +43,10 @@ same-length : tie.Need-same-length Inv-loop μ-loop
 same-length c = search needs
 
 returns : tie.Need-returns Inv-loop μ-loop
+unfolding stripAt
 returns c =
     let l = c .before .loop in
-    let g = c .before .before .args in
     written-all _ (l .b) _ (l .dst) (l .inv) (omega arith)
-    ∙ ap (λ (n : ℕ). listed n (λ b. getD (g .src .now) b 0)) (sym (c .before .before .pre))
-    ∙ listed-getD 0 (g .src .now)
 
 pub copy-spec : {M : Type 1} → statement M
 copy-spec =
@@ -55,6 +55,7 @@ copy-spec =
     Inv-loop
     μ-loop
     loop-holds
+    add-dst
     shared-slice-read-dst
     slice-write-dst
     add-b

@@ -1,97 +1,128 @@
--- `strips::couple` meets its contract. The invariant: the first b offsets are coupled.
-use mathlib.Core.Path.{_≡_, refl, ap, _∙_}
-use Prim.Native.Nat.{ℕ, _-_, _≤_, zero-le}
+-- `strips::couple` meets its contract: the fronts of the two arrays hold the strips as they were.
+use mathlib.Core.Path.{_≡_, sym, ap, _∙_}
+use mathlib.Core.List.{List}
+use Prim.Native.Nat.{ℕ}
 use native.Mathlib.Omega.{arith}
-use lib.ListN.{length, length-set}
 use borrow.Author.Needs.{needs}
-use Rattle.gf256.specs.Field.{_⊕_}
-use Rattle.strips.specs.Strips.{coupledStrips}
-use Rattle.strips.proofs.Coupled.{coupled-none, coupled-more}
+use lib.ListN.{length}
+use lib.Seq.{length-take-le}
+use Rattle.lists.proofs.Patched.{patched-length}
+use Rattle.lists.proofs.Lent.{front-fits, front}
+use Rattle.strips.specs.Strips.{stripAt, addedScaled, addedStrip}
+use Rattle.strips.proofs.Strip.{strip-length}
+use Rattle.strips.proofs.Coupled.{both-added}
 use Rattle.strips.proofs.couple.Statement.{statement}
 use Rattle.strips.proofs.couple.Tie as tie
 
-abbrev Inv-loop : tie.InvT-loop
-Inv-loop x₀ upper lower s t b₀ x b = (b ≤ s) × (length x ≡ length x₀) × (x ≡ coupledStrips t upper lower b x₀)
+array-borrow-prefix-u : tie.Need-array-borrow-prefix-u
+array-borrow-prefix-u c = search needs
 
-abbrev μ-loop : tie.MeasureT-loop
-μ-loop x₀ upper lower s t b₀ x b = s - b
+slice-aggregate-copy : tie.Need-slice-aggregate-copy
+slice-aggregate-copy c = sym (length-take-le _ _ (array-borrow-prefix-u (c .before)))
 
-loop-holds : tie.Need-loop-holds Inv-loop μ-loop
-loop-holds c = (zero-le, refl, coupled-none _ _ _ _)
+copy-requires : tie.Need-copy-requires
+copy-requires c κs = omega (arith, slice-aggregate-copy (c .before), c .before .before .before .pre)
 
-add-u : tie.Need-add-u Inv-loop μ-loop
-add-u c = search needs
+array-borrow-prefix-v : tie.Need-array-borrow-prefix-v
+array-borrow-prefix-v c = search needs
 
-slice-read-u : tie.Need-slice-read-u Inv-loop μ-loop
-slice-read-u c = search needs
+slice-aggregate-copy-2 : tie.Need-slice-aggregate-copy-2
+slice-aggregate-copy-2 c = sym (length-take-le _ _ (array-borrow-prefix-v (c .before)))
 
-add-v : tie.Need-add-v Inv-loop μ-loop
-add-v c = search needs
+copy-requires-2 : tie.Need-copy-requires-2
+copy-requires-2 c κs =
+    let start = c .before .before .before .before .before .before .before in
+    omega (arith, slice-aggregate-copy-2 (c .before), start .pre)
 
-slice-read-v : tie.Need-slice-read-v Inv-loop μ-loop
-slice-read-v c = search needs
+-- the two strips, copied out
+module _ (c : tie.After-copy2) where
+  abbrev start : tie.Start
+  start = c .before .before .before .before .before .before .before .before
 
-add-x : tie.Need-add-x Inv-loop μ-loop
-add-x c = search needs
+  abbrev x : List ℕ
+  x = start .args .x .now
 
-slice-write-x : tie.Need-slice-write-x Inv-loop μ-loop
-slice-write-x c = search needs
+  abbrev s : ℕ
+  s = start .args .s
 
-times-requires : tie.Need-times-requires Inv-loop μ-loop
-times-requires c κs = search needs
+  abbrev u : List ℕ
+  u = c .before .before .before .before .copy .last .0
 
-add-x-2 : tie.Need-add-x-2 Inv-loop μ-loop
-add-x-2 c = search needs
+  abbrev v : List ℕ
+  v = c .copy2 .last .0
 
-slice-write-x-2 : tie.Need-slice-write-x-2 Inv-loop μ-loop
-slice-write-x-2 c = simp length-set (omega arith)
+  upper : u ≡ stripAt x (start .args .upper) s
+  upper = c .before .before .before .before .copy .ensures
+      ∙ ap (stripAt x (start .args .upper)) (length-take-le _ _ (start .pre .0))
 
-add-b : tie.Need-add-b Inv-loop μ-loop
-add-b c = search needs
+  lower : v ≡ stripAt x (start .args .lower) s
+  lower = c .copy2 .ensures ∙ ap (stripAt x (start .args .lower)) (length-take-le _ _ (start .pre .0))
 
-loop-less : tie.Need-loop-less Inv-loop μ-loop
-loop-less c = search needs
+  upper-size : length u ≡ s
+  upper-size = ap length upper ∙ strip-length x _ s
 
-loop-again : tie.Need-loop-again Inv-loop μ-loop
-unfolding _⊕_
-loop-again c =
-    let w = c .before .before .before .before in
-    let l = w .loop in
-    let g = w .before .before .args in (
-      omega arith,
-      simp length-set (l .inv .1),
-      coupled-more (g .t) (g .upper) (g .lower) (l .b) (g .x .now) (l .x) (omega arith) (omega arith) (l .inv .2) _
-          (c .times .ensures),
-    )
+  lower-size : length v ≡ s
+  lower-size = ap length lower ∙ strip-length x _ s
 
-same-length : tie.Need-same-length Inv-loop μ-loop
+array-share-prefix-v : tie.Need-array-share-prefix-v
+array-share-prefix-v c =
+    let w = c .before .before in
+    front-fits (v w) _ (lower-size w)
+
+slice-aggregate-add : tie.Need-slice-aggregate-add
+slice-aggregate-add c = sym (length-take-le _ _ (array-share-prefix-v (c .before)))
+
+add-requires : tie.Need-add-requires
+add-requires c κs =
+    omega (arith, slice-aggregate-add c, (start (c .before .before .before)) .pre)
+
+added-length : (at : ℕ) (src x : List ℕ) → length (addedStrip at src x) ≡ length x
+unfolding addedStrip
+added-length at src x = patched-length at (length src) _ x
+
+array-share-prefix-u : tie.Need-array-share-prefix-u
+array-share-prefix-u c =
+    let w = c .before .before .before .before .before .before .before in
+    front-fits (u w) _ (upper-size w)
+
+slice-aggregate-add-scaled : tie.Need-slice-aggregate-add-scaled
+slice-aggregate-add-scaled c = sym (length-take-le _ _ (array-share-prefix-u (c .before)))
+
+add-scaled-requires : tie.Need-add-scaled-requires
+add-scaled-requires c κs =
+    let added = c .before .before .before .before in
+    let w = added .before .before .before .before in
+    let same = ap length (added .add .ensures) ∙ added-length _ _ (x w) in
+    omega (arith, slice-aggregate-add-scaled c, same, (start w) .pre)
+
+same-length : tie.Need-same-length
 same-length c = search needs
 
-returns : tie.Need-returns Inv-loop μ-loop
+returns : tie.Need-returns
 returns c =
-    let l = c .before .loop in
-    let g = c .before .before .before .args in
-    let e : l .b ≡ g .s = omega arith in
-    l .inv .2 ∙ ap (λ (m : ℕ). coupledStrips (g .t) (g .upper) (g .lower) m (g .x .now)) e
+    let added = c .before .before .before .before .before .before .before in
+    let w = added .before .before .before .before in
+    let a = (start w) .args in
+    c .before .before .add-scaled .ensures
+    ∙ ap (addedScaled (a .t) (a .lower) _) (added .add .ensures)
+    ∙ both-added (a .t) (a .upper) (a .lower) (a .s) (x w) ((start w) .pre .1) ((start w) .pre .2) _ _
+    (front (u w) _ (upper-size w) ∙ upper w) (front (v w) _ (lower-size w) ∙ lower w)
 
 pub couple-spec : {M : Type 1} → statement M
 couple-spec =
     tie.close
     (tie.spec
-    Inv-loop
-    μ-loop
-    loop-holds
-    add-u
-    slice-read-u
-    add-v
-    slice-read-v
-    add-x
-    slice-write-x
-    times-requires
-    add-x-2
-    slice-write-x-2
-    add-b
-    loop-less
-    loop-again
+    array-borrow-prefix-u
+    slice-aggregate-copy
+    copy-requires
+    array-borrow-prefix-v
+    slice-aggregate-copy-2
+    copy-requires-2
+    array-share-prefix-v
+    slice-aggregate-add
+    add-requires
+    array-share-prefix-u
+    slice-aggregate-add-scaled
+    add-scaled-requires
     same-length
     returns)
