@@ -30,7 +30,8 @@ pub extern "C" fn whaupfield_encode(
     input: &[u8],
     array: &mut [u8],
 ) -> u64
-    ensures { λ r. ⌜ (r, now (array .exit)) ≡ packedWith (encodeOf (record { n = n; k = k; a = a; t = t; s = s }) (now (input .entry)) (now (array .entry))) ⌝ }
+    ensures { λ r. ⌜ (r, now (array .exit)) ≡ packedWith (encodeOf
+        (record { n = n; k = k; a = a; t = t; s = s }) (now (input .entry)) (now (array .entry))) ⌝ }
 {
     pack(encode::encode(Numbers { n, k, a, t, s }, input, array))
 }
