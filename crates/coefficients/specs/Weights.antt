@@ -8,7 +8,7 @@
 -- denominatorOf nodes q : the product of the sums of the q-th node and each other node
 -- denominatorsOf nodes  : the denominator of each of the nodes
 -- Divisors ds ms        : at most 24 differences ds and as many denominators ms, none of them 0
--- weightsFrom ds ms     : the product of all differences, divided by each difference and by its denominator
+-- weightsFrom ds ms     : for each node the product of all differences, divided by its own difference and denominator
 use mathlib.Core.Path.{_≡_}
 use mathlib.Core.Logic.{_≢_}
 use mathlib.Core.List.{List}

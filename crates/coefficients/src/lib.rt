@@ -1,5 +1,5 @@
-// The weights of Lagrange's formula, for any node from any different nodes: the product of all differences, divided by
-// the node's own difference and by its denominator.
+// The weights of Lagrange's formula, for any node from other nodes that all differ: for each of them the product of all
+// differences, divided by its own difference and by its denominator.
 ghost use mathlib.Core.Path.{_≡_};
 ghost use Prim.Native.Nat.{_≤_, _<_};
 ghost use lib.ListN.{length};
@@ -31,7 +31,7 @@ fn denominator(nodes: &[u8], q: usize) -> u8
     gf256::product_of(&d[..k])
 }
 
-// The denominators of the weights: once a call, whatever the number of nodes wanted.
+// The denominators of the weights. They do not depend on the node wanted: computed once, they serve every one.
 pub fn denominators(nodes: &[u8], out: &mut [u8])
     requires { ⌜ Different (now nodes) ⌝ }
     requires { ⌜ length (now out) ≡ length (now nodes) ⌝ }

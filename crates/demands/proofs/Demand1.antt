@@ -9,10 +9,21 @@ use native.Mathlib.Omega.{arith}
 use lib.ListN.{length}
 use Rattle.document.specs.declared.Numbers.{Numbers}
 use Rattle.document.specs.declared.Refusal.{Refusal}
-use Rattle.document.specs.declared.Refusal.the-variants.{Shape, Constant, StripLength}
+use Rattle.document.specs.declared.Refusal.the-variants.{
+  Shape,
+  Constant,
+  StripLength,
+  OutOfRange,
+  BufferLength,
+  BundleForm,
+  BundleHead,
+  Misplaced,
+  Stale,
+  Ambiguous,
+}
 use Rattle.document.specs.declared.Answer.{Answer}
 use Rattle.document.specs.declared.Answer.the-variants.{Done, Refused}
-use Rattle.document.specs.Refusals.{numberOf, Test, tried, Decides}
+use Rattle.document.specs.Refusals.{numberOf, indexOf, answerNumber, answerValue, Test, tried, Decides}
 use Rattle.document.specs.Profile.{ShapeAccepted, Accepted, profileTests, profileOf}
 use Rattle.document.specs.Encoding.{encoded, encodeTests, encodeOf}
 use Rattle.document.proofs.Decides.{decides-eq, decides-both, decides-not, decides-same}
@@ -29,12 +40,31 @@ use Rattle.demands.specs.Refusals.{
   profileSentences,
   encodeSentences,
   Numbered,
+  EncodeDecided,
   Demand1Encode,
 }
 
 -- done is not refused
 done-refused : (v : ℕ) (r : Refusal) → Done v ≡ Refused r → ⊥
 done-refused v r e = let z : _≡_ {A = ℕ} 0 1 = cc in omega arith
+
+-- an answer with the number 0 is done
+pub answered : (answer : Answer) → answerNumber answer ≡ 0 → answer ≡ Done (answerValue answer)
+unfolding answerNumber answerValue numberOf
+answered (Done v) e = refl
+answered (Refused r) e = absurd (go r e)
+  where
+    go : (r : Refusal) → numberOf r ≡ 0 → ⊥
+    go Shape e = omega arith
+    go Constant e = omega arith
+    go StripLength e = omega arith
+    go OutOfRange e = omega arith
+    go BufferLength e = omega arith
+    go BundleForm e = omega arith
+    go BundleHead e = omega arith
+    go (Misplaced i) e = omega arith
+    go (Stale i) e = omega arith
+    go Ambiguous e = omega arith
 
 same-refusal : (q r : Refusal) → Refused q ≡ Refused r → q ≡ r
 same-refusal q r e = cc
@@ -151,6 +181,19 @@ module _ {X : Type 0} (before : X) where
           decided _ (decides-strip (p .s))
           (λ n. unrefused StripLength (later (λ m. m shape) (later (λ m. m constant) (here (outside (p .s) n)))))
 
+  -- None of the refusals tried after them holds.
+  pub done-later : (p : Numbers) (table : List Sentence) (outcome : Answer × X) (v : ℕ)
+      → RefusesExactly (profileSentences p ++ table) before outcome → outcome .0 ≡ Done v
+      → (r : Refusal) → FirstOf table r → ⊥
+  unfolding profileSentences
+  done-later p table outcome v R e r f =
+      let a : Accepted (profileOf p) = done-accepted p table outcome v R e in
+      done-refused v r
+      (sym e
+      ∙ R .given r .1
+      (later (λ m. m (a .shape))
+      (later (λ m. m (a .above-one, a .one-byte)) (later (λ m. inside (p .s) m (a .some-bytes, a .short)) f))))
+
 -- The tests of refusals 1, 2 and 3, before any others, decide their sentences.
 pub profile-decided : (p : Numbers) {tests : List Test} {table : List Sentence} → Decided tests table
     → Decided (profileTests p ++ tests) (profileSentences p ++ table)
@@ -161,7 +204,7 @@ profile-decided p rest =
     (line refl (decides-same _ (decides-not _ (decides-strip (p .s))) (outside (p .s)) (inside (p .s))) rest))
 
 -- Each test of encoding decides its sentence of the table.
-pub encode-decided : (p : Numbers) (d x : List ℕ) → Decided (encodeTests p d x) (encodeSentences p d x)
+pub encode-decided : EncodeDecided
 unfolding encodeTests encodeSentences
 encode-decided p d x =
     profile-decided p
@@ -175,7 +218,15 @@ pub demand-1-encode : Demand1Encode
 unfolding encodeOf
 demand-1-encode p d x = tried-exactly x 0 (encoded (profileOf p) d) (encode-decided p d x)
 
+-- Encoding that is done has buffers of the right lengths.
+pub done-sizes : (p : Numbers) (d x : List ℕ) (v : ℕ) → encodeOf p d x .0 ≡ Done v
+    → (length d ≡ p .k * p .a * p .s) × (length x ≡ p .n * p .a * p .s)
+unfolding encodeSentences
+done-sizes p d x v e =
+    decided _ (decides-both _ _ (decides-eq (length d) (p .k * p .a * p .s)) (decides-eq (length x) (p .n * p .a * p .s)))
+    (λ n. done-later x p _ (encodeOf p d x) v (demand-1-encode p d x) e BufferLength (here n))
+
 -- The table has document 01's numbers.
 pub numbered : Numbered
-unfolding encodeSentences profileSentences numberOf
-numbered p d x = refl
+unfolding encodeSentences profileSentences numberOf indexOf
+numbered p d x = (refl, refl)

@@ -4,12 +4,14 @@ use mathlib.Core.List.{List}
 use Prim.Native.Nat.{ℕ, _+_, _*_, _/_, _%_, _<_}
 use native.Mathlib.Decide.{ℕ-discrete, decLt}
 use native.Mathlib.Omega.{arith}
+use lib.ListN.{length}
 use Rattle.algebra.specs.Polynomial.{eval}
 use Rattle.algebra.specs.RowCode.{Choice, Codeword}
 use Rattle.algebra.proofs.RowCode.{determined}
 use Rattle.document.specs.declared.Profile.{Profile}
 use Rattle.document.specs.declared.Place.{Place}
 use Rattle.document.specs.declared.Answer.the-variants.{Done}
+use Rattle.document.specs.Refusals.{answerValue}
 use Rattle.document.specs.Profile.{Accepted, profileOf}
 use Rattle.document.specs.Places.{place, partnerOf, Within}
 use Rattle.document.specs.Bytes.{bytes, Byte, byte}
@@ -39,7 +41,7 @@ use Rattle.document.proofs.Arrays.{
 }
 use Rattle.demands.specs.Refusals.{encodeSentences}
 use Rattle.demands.specs.Encoding.{DocumentArray, OneArray, Demand2Encode}
-use Rattle.demands.proofs.Demand1.{tried-done, done-accepted, demand-1-encode}
+use Rattle.demands.proofs.Demand1.{answered, tried-done, done-accepted, done-sizes, demand-1-encode}
 
 module _ (p : Profile) where
   open Profile p using (n, k, a as A, s as S)
@@ -50,9 +52,10 @@ module _ (p : Profile) where
 
   module _ (acc : Accepted p) (d : List ℕ) where
     -- The encoded array is the array that document 01 defines.
-    pub encoded-is : DocumentArray p d (encoded p d)
+    pub encoded-is : length d ≡ k * A * S → DocumentArray p d (encoded p d)
     unfolding encoded constantOf
-    encoded-is = record {
+    encoded-is size = record {
+      data-size = size;
       base = baseAt p d;
       coefficients = λ b i. row-word p d b i .poly .coefficients;
       stored = record { size = laid-length p n (storedAt d); bytes-only = laid-small p n (storedAt d) };
@@ -118,11 +121,17 @@ one-array p acc d x y X Y = encoded-only p acc d x X ∙ sym (encoded-only p acc
 
 -- Encoding writes it.
 pub demand-2-encode : Demand2Encode
-unfolding encodeOf encodeSentences
-demand-2-encode p d x v e = (cc done, rw done (encoded-is (profileOf p) accepted d))
+unfolding encodeOf encodeSentences answerValue
+demand-2-encode p d x e = (rw done refl, rw done (encoded-is (profileOf p) accepted d (done-sizes p d x v is-done .0)))
   where
+    v : ℕ
+    v = answerValue (encodeOf p d x .0)
+
+    is-done : encodeOf p d x .0 ≡ Done v
+    is-done = answered (encodeOf p d x .0) e
+
     done : encodeOf p d x ≡ (Done 0, encoded (profileOf p) d)
-    done = tried-done x 0 (encoded (profileOf p) d) (encodeTests p d x) v e
+    done = tried-done x 0 (encoded (profileOf p) d) (encodeTests p d x) v is-done
 
     accepted : Accepted (profileOf p)
-    accepted = done-accepted x p _ (encodeOf p d x) v (demand-1-encode p d x) e
+    accepted = done-accepted x p _ (encodeOf p d x) v (demand-1-encode p d x) is-done

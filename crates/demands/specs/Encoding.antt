@@ -3,6 +3,7 @@
 -- DocumentArray p d x : x is the array that document 01 defines for the data d, in the profile p
 -- OneArray            : it is the only one
 -- Demand2Encode       : encoding that is not refused writes it
+-- Shown in proofs/Demand2.antt: one-array, demand-2-encode.
 --
 -- In it b is a byte offset of a strip, i a row, j a node, j % A its local column l. The words it uses:
 -- byteAt p x b q : byte b of the strip at the place q of the array or data x
@@ -12,14 +13,14 @@
 -- eval bytes c z : the value at z of the polynomial with the coefficients c, constant term first
 use mathlib.Core.Path.{_≡_}
 use mathlib.Core.List.{List}
-use Prim.Native.Nat.{ℕ, _%_, _≤_, _<_}
+use Prim.Native.Nat.{ℕ, _*_, _%_, _≤_, _<_}
 use lib.ListN.{length}
 use Rattle.algebra.specs.Field.{Field}
 use Rattle.algebra.specs.Polynomial.{eval}
 use Rattle.document.specs.declared.Numbers.{Numbers}
 use Rattle.document.specs.declared.Profile.{Profile}
 use Rattle.document.specs.declared.Place.{Place}
-use Rattle.document.specs.declared.Answer.the-variants.{Done}
+use Rattle.document.specs.Refusals.{answerNumber, answerValue}
 use Rattle.document.specs.Places.{place, partnerOf}
 use Rattle.document.specs.Bytes.{bytes, Byte, byte}
 use Rattle.document.specs.Profile.{Accepted, profileOf}
@@ -38,6 +39,8 @@ module _ (p : Profile) (d x : List ℕ) where
     pub base : ℕ → Place → Byte
     -- The coefficients of one polynomial for each byte offset and row.
     pub coefficients : ℕ → ℕ → List Byte
+    -- 'data use the same order with j < k': kAS bytes
+    pub data-size : length d ≡ k * A * S
     -- 'A stored array is any nAS bytes.'
     pub stored : Stored p x
     -- 'One row of base symbols .. is the list of values, at the points 0..n-1, of a polynomial of degree below k.'
@@ -61,5 +64,5 @@ OneArray = (p : Profile) → Accepted p → (d x y : List ℕ) → DocumentArray
 -- 'Encoding writes the array that document 01 defines.' 'On success the answer is 0, with .. 0 otherwise.'
 abbrev pub Demand2Encode : Type 0
 Demand2Encode =
-    (p : Numbers) (d x : List ℕ) (v : ℕ) → encodeOf p d x .0 ≡ Done v
-    → (v ≡ 0) × DocumentArray (profileOf p) d (encodeOf p d x .1)
+    (p : Numbers) (d x : List ℕ) → answerNumber (encodeOf p d x .0) ≡ 0
+    → (answerValue (encodeOf p d x .0) ≡ 0) × DocumentArray (profileOf p) d (encodeOf p d x .1)

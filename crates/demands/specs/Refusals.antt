@@ -7,8 +7,10 @@
 -- Decided tests table                 : the tests that a call makes decide the sentences of the table, line by line
 -- profileSentences p                  : the lines for a profile's numbers
 -- encodeSentences p d x               : the table for encoding the data d into x
--- Numbered                            : its lines are document 01's numbers, in their order
+-- Numbered                            : its lines have document 01's numbers, in their order, and come with 0
+-- EncodeDecided                       : the tests of encoding decide that table
 -- Demand1Encode                       : encoding refuses as its table says
+-- Shown in proofs/Demand1.antt: numbered, encode-decided, demand-1-encode.
 --
 -- That every entry point answers: it has no `requires`, and each function of the store is proved to end without a fault.
 use mathlib.Core.Path.{_≡_}
@@ -21,9 +23,9 @@ use Rattle.document.specs.declared.Refusal.{Refusal}
 use Rattle.document.specs.declared.Refusal.the-variants.{Shape, Constant, StripLength, BufferLength}
 use Rattle.document.specs.declared.Answer.{Answer}
 use Rattle.document.specs.declared.Answer.the-variants.{Refused}
-use Rattle.document.specs.Refusals.{numberOf, Test, Decides}
+use Rattle.document.specs.Refusals.{numberOf, indexOf, Test, Decides}
 use Rattle.document.specs.Profile.{ShapeAccepted}
-use Rattle.document.specs.Encoding.{encodeOf}
+use Rattle.document.specs.Encoding.{encodeTests, encodeOf}
 
 -- One line of the table 'Refusals by number, in the order they are tried', for one call.
 pub record Sentence : Type 1 where
@@ -35,7 +37,8 @@ pub data FirstOf : List Sentence → Refusal → Type 1 where
   here : {s : Sentence} {table : List Sentence} → s .says → FirstOf (s ∷ table) (s .refusal)
   later : {s : Sentence} {table : List Sentence} {r : Refusal} → (s .says → ⊥) → FirstOf table r → FirstOf (s ∷ table) r
 
--- The outcome of a call is its answer, beside what the buffers lent for writing hold then.
+-- The outcome of a call is its answer, beside what the buffers lent for writing hold then. A buffer lent for reading is
+-- of a type that no function can write to.
 pub record RefusesExactly {X : Type 0} (table : List Sentence) (before : X) (outcome : Answer × X) : Type 1 where
   -- 'given exactly when its condition is the first that holds'
   pub given : (r : Refusal) → (outcome .0 ≡ Refused r) ↔ FirstOf table r
@@ -66,9 +69,17 @@ encodeSentences p d x =
     }
     ∷ [])
 
--- The refusals that encoding can give, by number, in the order they are tried.
+-- The refusals that encoding can give, by number, in the order they are tried; '8 and 9 come with the index .., the
+-- others with 0'.
 abbrev pub Numbered : Type 0
-Numbered = (p : Numbers) (d x : List ℕ) → map (λ s. numberOf (s .refusal)) (encodeSentences p d x) ≡ (1 ∷ 2 ∷ 3 ∷ 5 ∷ [])
+Numbered =
+    (p : Numbers) (d x : List ℕ)
+    → (map (λ s. numberOf (s .refusal)) (encodeSentences p d x) ≡ (1 ∷ 2 ∷ 3 ∷ 5 ∷ []))
+    × (map (λ s. indexOf (s .refusal)) (encodeSentences p d x) ≡ (0 ∷ 0 ∷ 0 ∷ 0 ∷ []))
+
+-- Each test of encoding is equivalent to its sentence.
+abbrev pub EncodeDecided : Type 1
+EncodeDecided = (p : Numbers) (d x : List ℕ) → Decided (encodeTests p d x) (encodeSentences p d x)
 
 -- Demand 1 for encoding, whatever the numbers and the bytes.
 abbrev pub Demand1Encode : Type 1

@@ -3,8 +3,8 @@
 -- formula, and the two are shown to be one.
 --
 -- start p q         : where the strip of the place q starts in memory
--- byteAt p x b q    : byte b of that strip, in data or in an array x
--- baseAt p d b q    : the base symbol of the data d at the place q
+-- byteAt p x b q    : byte b of that strip, in data or in an array x; 0 past the end of x
+-- baseAt p d b q    : the base symbol of the data d at byte offset b of the place q
 -- constantOf p i l  : the coupling constant of the lower strip at row i, local column l
 -- coupledAt p a q   : what is stored at q where the base symbols are a
 -- laidOut p m f     : m nodes in memory's order, with f b q at byte b of the place q
@@ -86,7 +86,7 @@ module _ (p : Profile) where
     pub size : length x ≡ n * A * S
     pub bytes-only : (e : ℕ) → e < length x → getD x e 0 < 256
 
-  -- 'An encoded array is a stored array that some data give': the one that the data d give.
+  -- The array that the data d give. 'An encoded array is a stored array that some data give': it is this for some d.
   unfoldable pub encoded : List ℕ → List ℕ
   encoded d = laidOut n (λ b. coupledAt (baseAt d b))
 

@@ -1,4 +1,4 @@
-// The types that all crates above share, in document 01's words, and the profile's constructor that refuses.
+// The types that the crates built on this one share, in document 01's words, and the profile's constructor that refuses.
 ghost use mathlib.Core.Path.{_≡_};
 ghost use Prim.Native.Nat.{_/_, _%_, _<_};
 ghost use Rattle.document.specs.Refusals.{numberOf, indexOf};
@@ -179,6 +179,7 @@ impl Profile {
             s: s,
         })
     }
+
     // The place of strip z in memory's order.
     pub fn place(self, z: usize) -> Place
         requires { ⌜ Accepted self ⌝ }
@@ -211,7 +212,7 @@ impl Profile {
         (q.node.0 * self.a + q.row.0) * self.s
     }
 
-    // The coupling constant of the lower strip at a row and a local column: the only function that reads t.
+    // The coupling constant of the lower strip at a row and a local column: the only function that reads a profile's t.
     pub fn constant(self, i: Row, l: usize) -> u8
         requires { ⌜ Accepted self ⌝ }
         ensures { λ r. ⌜ r ≡ number (constantOf self (i .0) l) ⌝ }

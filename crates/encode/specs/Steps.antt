@@ -2,7 +2,7 @@
 --
 -- dataNodes k        : the numbers of the data nodes
 -- partnerStrip A z   : the number in memory's order of the partner of strip z
--- pairCoupled p z x  : x with strip z and its partner coupled, where z is the upper one of the two
+-- pairCoupled p z x  : x with strip z and its partner coupled, where z is the upper one of the two; otherwise x
 use mathlib.Core.Bool.{cond}
 use mathlib.Core.List.{List}
 use Prim.Native.Nat.{ℕ, _+_, _*_, _/_, _%_}

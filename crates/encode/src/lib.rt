@@ -91,7 +91,7 @@ fn put_rows(array: &mut [u8], p: Profile, input: &[u8])
     }
 }
 
-// Couples strip z with its partner, where z is the upper one of the two.
+// Couples strip z with its partner, where z is the upper one of the two; otherwise the array stays as it is.
 fn couple_strip(x: &mut [u8], p: Profile, z: usize)
     requires { ⌜ Accepted p × (length (now x) ≡ p .n * p .a * p .s) × (z < p .n * p .a) ⌝ }
     ensures { λ _. ⌜ now (x .exit) ≡ pairCoupled p z (now (x .entry)) ⌝ }

@@ -1,6 +1,6 @@
 -- An answer as one number for a C host.
 --
--- packed answer  : the answer's number in the low byte, its value above it
+-- packed answer   : the answer's number in the low byte, its value above it
 -- packedWith pair : an outcome with its answer packed
 use Prim.Native.Nat.{ℕ, _+_, _*_}
 use Rattle.document.specs.declared.Answer.{Answer}

@@ -49,7 +49,7 @@ pub fn inverse(a: u8) -> u8
     power_at(&table::powers(), n)
 }
 
-// The quotient, by the tables lent.
+// The quotient, by the tables lent. The caller shows that the divisor is not 0.
 fn quotient(exp: &[u8; 256], log: &[u8; 256], a: u8, b: u8) -> u8
     requires { ⌜ (now exp ≡ tableOf power) × (now log ≡ tableOf Field.log) ⌝ }
     requires { ⌜ 0 < b ⌝ }
@@ -60,14 +60,6 @@ fn quotient(exp: &[u8; 256], log: &[u8; 256], a: u8, b: u8) -> u8
     }
     let n = log_at(log, a) + (255 - log_at(log, b));
     power_at(exp, n)
-}
-
-// The quotient. The caller shows that the divisor is not 0.
-pub fn divide(a: u8, b: u8) -> u8
-    requires { ⌜ 0 < b ⌝ }
-    ensures { λ r. ⌜ r ≡ a ⊗ Field.inverse b ⌝ }
-{
-    quotient(&table::powers(), &table::logs(), a, b)
 }
 
 // The product of a short list, by the sum of the logarithms; 0 if an entry is 0.

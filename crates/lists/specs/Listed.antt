@@ -1,6 +1,6 @@
 -- Lists by a function of the index.
 --
--- listed n f      : f 0, f 1, .. f (n - 1)
+-- listed n f       : f 0, f 1, .. f (n - 1)
 -- patched at m f x : x with f b in the place of its entry at + b, for each b below m
 use mathlib.Core.Bool.{_&&_, cond}
 use mathlib.Core.List.{List, [], _∷_}

@@ -1,1 +1,1 @@
-// Lists alone: the definition in specs/, its laws in proofs/.
+// Lists alone: the definitions in specs/, their laws in proofs/.

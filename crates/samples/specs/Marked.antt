@@ -4,9 +4,10 @@
 -- marked : the cases
 -- shown  : what the cases give is what document 01 says
 use mathlib.Core.Path.{_≡_, refl}
-use mathlib.Core.List.{List, [], _∷_, map}
+use mathlib.Core.List.{List, [], _∷_, _++_, map}
 use Prim.Native.Nat.{ℕ}
 use native.Mathlib.Decide.{ℕ-discrete, decLt}
+use lib.ListN.{take, drop, replicate}
 use Rattle.lists.specs.Listed.{listed}
 use Rattle.gf256.specs.Field.{_⊕_, _⊗_, double, bitProduct, raised, inverse}
 use Rattle.algebra.specs.Sum.{sum}
@@ -40,24 +41,33 @@ profile t = record { n = 4; k = 2; a = 2; t = t; s = 1 }
 abbrev pub outcome : Answer × List ℕ → List ℕ
 outcome (answer, x) = answerNumber answer ∷ answerValue answer ∷ x
 
-unfoldable pub zeros : List ℕ
-zeros = 0 ∷ 0 ∷ 0 ∷ 0 ∷ 0 ∷ 0 ∷ 0 ∷ 0 ∷ []
+-- The same with the columns of nodes 0 and 3 alone.
+abbrev pub outerColumns : Answer × List ℕ → List ℕ
+outerColumns (answer, x) = outcome (answer, take 2 x ++ drop 6 x)
 
--- M1 to M4, in document 01's order.
+-- An array that is lent, with something in it.
+unfoldable pub lent : List ℕ
+lent = replicate 8 0xFF
+
+-- M1 to M4 and M9, in document 01's order.
 unfoldable pub marked : List Case
 marked =
     record { gives = 128 ⊗ 128 ∷ []; says = 19 ∷ [] }
     ∷ record { gives = inverse 2 ∷ []; says = 142 ∷ [] }
     ∷ record { gives = 3 ⊗ 3 ∷ []; says = 5 ∷ [] }
     ∷ record {
-      gives = outcome (encodeOf (profile 2) (0x01 ∷ 0x00 ∷ 0x02 ∷ 0x04 ∷ []) zeros);
+      gives = outcome (encodeOf (profile 2) (0x01 ∷ 0x00 ∷ 0x02 ∷ 0x04 ∷ []) lent);
       says = 0 ∷ 0 ∷ 0x01 ∷ 0x04 ∷ 0x02 ∷ 0x04 ∷ 0x07 ∷ 0x00 ∷ 0x0C ∷ 0x0C ∷ [];
+    }
+    ∷ record {
+      gives = outerColumns (encodeOf (profile 5) (0x00 ∷ 0x05 ∷ 0x01 ∷ 0x06 ∷ []) lent);
+      says = 0 ∷ 0 ∷ 0x00 ∷ 0x00 ∷ 0x00 ∷ 0x00 ∷ [];
     }
     ∷ []
 
 -- Each marked case gives what document 01 says.
 pub shown : map (λ c. c .gives) marked ≡ map (λ c. c .says) marked
-unfolding marked zeros encodeOf encodeTests profileTests shapeAccepted constantAccepted stripAccepted tried answerNumber
+unfolding marked lent encodeOf encodeTests profileTests shapeAccepted constantAccepted stripAccepted tried answerNumber
     answerValue encoded laidOut coupledAt constantOf baseAt byteAt start listed sum weight byte number bytes _⊕_ _⊗_
     double bitProduct raised inverse ℕ-discrete decLt
 shown = refl

@@ -63,14 +63,14 @@ fn zero_columns() {
     print_bytes(&array[6..8]);
 }
 
-// Encodes with a profile on its edge: data of `wanted` bytes, an array of `room` bytes.
-fn print_edge(name: &[u8], p: Numbers, wanted: usize, room: usize)
-    requires { ⌜ (wanted ≤ 2052) × (room ≤ 4104) ⌝ }
+// Encodes data of `size` bytes into an array of `room` bytes with a profile on its edge, and prints whether it passes.
+fn print_edge(name: &[u8], p: Numbers, size: usize, room: usize)
+    requires { ⌜ (size ≤ 2052) × (room ≤ 4104) ⌝ }
 {
     let input = [0u8; 2052];
     let mut array = [0u8; 4104];
     print(name);
-    let answer = encode::encode(p, &input[..wanted], &mut array[..room]);
+    let answer = encode::encode(p, &input[..size], &mut array[..room]);
     match answer {
         Answer::Done(_) => print(b" passes"),
         Answer::Refused(r) => {

@@ -1,4 +1,5 @@
-// What is done to whole strips. No table is read here: the loops over bytes hold shifts and exclusive ors alone.
+// What is done to whole strips. No table is read here: the loops over bytes hold shifts, comparisons and exclusive ors
+// alone.
 ghost use mathlib.Core.Path.{_≡_};
 ghost use Prim.Native.Nat.{ℕ, _+_, _*_, _^_, _<_, _≤_};
 ghost use lib.ListN.{length, take, drop, replicate};
@@ -232,7 +233,7 @@ pub fn combine(dst: &mut [u8], src: &[u8], first: usize, stride: usize, weights:
 }
 
 // Couples the upper strip of a pair with the lower one, which lies before it in memory. Both are copied out first, so
-// that no loop reads and writes the same slice.
+// that each loop reads the partner from another slice than the one it writes.
 pub fn couple(x: &mut [u8], upper: usize, lower: usize, s: usize, t: u8)
     requires { ⌜ (s ≤ 512) × (lower + s ≤ upper) × (upper + s ≤ length (now x)) ⌝ }
     ensures { λ _. ⌜ now (x .exit) ≡ coupledStrips t upper lower s (now (x .entry)) ⌝ }
