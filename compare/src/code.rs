@@ -1,4 +1,4 @@
-//! Document 01's profile, row code, coupling and encoding, each written down from its sentence there.
+//! Document 01's profile, row code, coupling, encoding and rebuild plan, each written down from its sentence there.
 
 use crate::field::{inverse, product, sum};
 
@@ -12,6 +12,7 @@ pub enum Refusal {
     NodesOrRows = 1,
     Constant = 2,
     StripLength = 3,
+    LostNode = 4,
     BufferLength = 5,
 }
 
@@ -96,6 +97,32 @@ impl Profile {
 
     fn places(&self) -> Vec<Place> {
         (0..self.n).flat_map(|node| (0..self.rows).map(move |row| Place { node, row })).collect()
+    }
+
+    /// The three steps of the plan for a lost node below n: row c of the nodes given, c the lost node's local
+    /// column, with the partner beside it in the third.
+    pub fn planned_places(&self, lost: usize) -> Vec<Place> {
+        let column = lost % self.rows;
+        let in_row = |node: usize| Place { node, row: column };
+        let in_own_group = |node: usize| node / self.rows == lost / self.rows;
+        let in_own_column = |node: usize| node % self.rows == column;
+        let own: Vec<usize> = (0..self.n).filter(|&node| in_own_group(node) && node != lost).collect();
+        let singles: Vec<usize> =
+            (0..self.n).filter(|&node| !in_own_group(node) && in_own_column(node)).take(self.k).collect();
+        let pairs = (0..self.n).filter(|&node| !in_own_group(node) && !in_own_column(node));
+
+        let missing = self.k - singles.len();
+        let mut places: Vec<Place> = own.into_iter().chain(singles).map(in_row).collect();
+        for place in pairs.take(missing).map(in_row) {
+            places.extend([place, self.partner(place)]);
+        }
+        places
+    }
+
+    /// "The number of places is A-1 + k + max(0, k-(G-1))", G = n div A.
+    pub fn number_of_places(&self) -> usize {
+        let other_groups = self.n / self.rows - 1;
+        self.rows - 1 + self.k + self.k.saturating_sub(other_groups)
     }
 
     /// The base symbols of one row at one byte offset, of the nodes 0..n-1.
@@ -192,4 +219,24 @@ pub fn encode(profile: &Profile, data: &[u8], array_length: usize) -> Result<Vec
         return Err(Refusal::BufferLength);
     }
     Ok(couple(profile, &base_of(profile, data)))
+}
+
+/// A plan as it is written: "two bytes a place", node then row.
+pub fn plan_bytes(places: &[Place]) -> Vec<u8> {
+    places.iter().flat_map(|place| [place.node as u8, place.row as u8]).collect()
+}
+
+/// What planning answers: the places of the plan, or the refusal with the lowest number that applies.
+pub fn plan(profile: &Profile, lost: usize, places_length: usize) -> Result<Vec<Place>, Refusal> {
+    if let Some(refusal) = profile.refusal() {
+        return Err(refusal);
+    }
+    if lost >= profile.n {
+        return Err(Refusal::LostNode);
+    }
+    let places = profile.planned_places(lost);
+    if places_length < 2 * places.len() {
+        return Err(Refusal::BufferLength);
+    }
+    Ok(places)
 }

@@ -1,5 +1,6 @@
 //! The kinds about encoding: samples, row codes, accepted and refused calls.
 
+use crate::calls::{refused_nodes_and_rows, Call, Tally, HUGE};
 use crate::code::{self, Profile, Refusal};
 use crate::library::{self, Answer, Lent};
 use crate::random::Random;
@@ -56,21 +57,6 @@ impl Case {
         Ok(array.bytes().to_vec())
     }
 
-    /// The whole comparison: answer, array, guard bytes.
-    fn compare(&self, random: &mut Random) -> Result<Option<Refusal>, String> {
-        match code::encode(&self.profile, &self.data, self.array.len()) {
-            Err(refusal) => {
-                self.call(Some(refusal), random)?;
-                Ok(Some(refusal))
-            }
-            Ok(expected) => {
-                let given = self.call(None, random)?;
-                self.same_array(&given, &expected)?;
-                Ok(None)
-            }
-        }
-    }
-
     fn same_array(&self, given: &[u8], expected: &[u8]) -> Result<(), String> {
         let Some(at) = (0..expected.len()).find(|&at| given[at] != expected[at]) else {
             return Ok(());
@@ -88,20 +74,20 @@ impl Case {
     }
 }
 
-/// How many calls were accepted and refused.
-#[derive(Default)]
-struct Tally {
-    accepted: usize,
-    refused: usize,
-}
-
-impl Tally {
-    fn compare(&mut self, case: Case, random: &mut Random) -> Result<(), String> {
-        match case.compare(random)? {
-            None => self.accepted += 1,
-            Some(_) => self.refused += 1,
+impl Call for Case {
+    /// The whole comparison: answer, array, guard bytes.
+    fn compare(&self, random: &mut Random) -> Result<Option<Refusal>, String> {
+        match code::encode(&self.profile, &self.data, self.array.len()) {
+            Err(refusal) => {
+                self.call(Some(refusal), random)?;
+                Ok(Some(refusal))
+            }
+            Ok(expected) => {
+                let given = self.call(None, random)?;
+                self.same_array(&given, &expected)?;
+                Ok(None)
+            }
         }
-        Ok(())
     }
 }
 
@@ -183,10 +169,7 @@ pub fn encodings(random: &mut Random) -> Outcome {
     every_small_number(&mut tally, random)?;
     refused_in_every_order(&mut tally, random)?;
     mixed_calls(&mut tally, random)?;
-    Ok(vec![
-        Count { what: "encodings accepted", cases: tally.accepted },
-        Count { what: "encodings refused", cases: tally.refused },
-    ])
+    Ok(tally.counts("encodings accepted", "encodings refused"))
 }
 
 /// Each accepted (n, k, A) with data that are zero but for one byte, at each position.
@@ -233,54 +216,6 @@ fn every_small_number(tally: &mut Tally, random: &mut Random) -> Result<(), Stri
         tally.compare(case, random)?;
     }
     Ok(())
-}
-
-/// Numbers that a narrower type would cut down to small ones, or whose products go past a machine word.
-const HUGE: [usize; 8] =
-    [usize::MAX, usize::MAX - 1, 1 << 63, (1 << 63) + 2, (1 << 62) + 4, 1 << 32, (1 << 32) + 2, (1 << 16) + 2];
-
-/// n, k and A that are not accepted, each for one reason or several.
-fn refused_nodes_and_rows() -> Vec<(usize, usize, usize)> {
-    let mut refused = vec![
-        // k below 1, n not above k
-        (4, 0, 2),
-        (4, 4, 2),
-        (4, 5, 2),
-        (0, 0, 0),
-        (0, 0, 2),
-        (0, 2, 2),
-        // A below 2 or above 4
-        (4, 2, 0),
-        (4, 2, 1),
-        (10, 5, 5),
-        (24, 12, 6),
-        // A above n-k
-        (4, 3, 2),
-        (3, 1, 3),
-        (8, 5, 4),
-        // A does not divide n
-        (5, 2, 2),
-        (7, 3, 3),
-        (14, 10, 4),
-        // n above 24
-        (25, 20, 5),
-        (25, 20, 2),
-        (26, 20, 2),
-        (27, 20, 3),
-        (28, 20, 4),
-        // numbers that a byte would cut down to (4,2,2)
-        (260, 2, 2),
-        (4, 258, 2),
-        (4, 2, 258),
-        (260, 258, 258),
-        // differences and products at the end of a machine word
-        (usize::MAX, usize::MAX - 3, 3),
-        (1 << 32, 1 << 31, 1 << 32),
-    ];
-    for huge in HUGE {
-        refused.extend([(huge, 2, 2), (4, huge, 2), (4, 2, huge), (huge, huge, 2), (huge, huge, huge)]);
-    }
-    refused
 }
 
 /// Every mixture of refusals 1, 2, 3 and 5, also of none, with each way to come to each.

@@ -15,6 +15,16 @@ extern "C" {
         array: *mut u8,
         array_len: usize,
     ) -> u64;
+    fn whaupfield_plan(
+        n: usize,
+        k: usize,
+        a: usize,
+        t: usize,
+        s: usize,
+        lost: usize,
+        places: *mut u8,
+        places_len: usize,
+    ) -> u64;
     fn whaupfield_product(a: u8, b: u8) -> u8;
     fn whaupfield_inverse(a: u8) -> u8;
 }
@@ -64,12 +74,17 @@ impl Lent {
 
     /// Nothing, or what to say of the first byte changed in the buffer or around it.
     pub fn change(&self) -> Option<String> {
-        self.first_change(0..self.room.len())
+        self.change_outside(0)
     }
 
     /// The same of the bytes around the buffer alone.
     pub fn change_around(&self) -> Option<String> {
-        let past = self.start + self.length..self.room.len();
+        self.change_outside(self.length)
+    }
+
+    /// The same of all bytes but the buffer's first `written`.
+    pub fn change_outside(&self, written: usize) -> Option<String> {
+        let past = self.start + written..self.room.len();
         self.first_change(0..self.start).or_else(|| self.first_change(past))
     }
 
@@ -93,6 +108,13 @@ pub fn encode(profile: &Profile, data: &mut Lent, array: &mut Lent) -> Answer {
     // Both pointers are to live bytes of the lengths given, in allocations apart.
     let word =
         unsafe { whaupfield_encode(n, k, rows, t, s, data.pointer(), data.length, array.pointer(), array.length) };
+    Answer::from_word(word)
+}
+
+pub fn plan(profile: &Profile, lost: usize, places: &mut Lent) -> Answer {
+    let Profile { n, k, rows, t, s } = *profile;
+    // The pointer is to live bytes of the length given.
+    let word = unsafe { whaupfield_plan(n, k, rows, t, s, lost, places.pointer(), places.length) };
     Answer::from_word(word)
 }
 

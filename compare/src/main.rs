@@ -1,13 +1,15 @@
 //! Compares the array store's exported C functions with document 01, read here a second time. See README.md.
 //!
 //! To add a call: its declaration and wrapper in library.rs, its definition in code.rs, its kinds in a file of
-//! their own, and a line in KINDS.
+//! their own, and a line in KINDS. What the kinds share is in calls.rs.
 
 mod arithmetic;
+mod calls;
 mod code;
 mod encodings;
 mod field;
 mod library;
+mod plans;
 mod random;
 
 use random::Random;
@@ -22,13 +24,16 @@ pub struct Count {
 pub type Outcome = Result<Vec<Count>, String>;
 
 /// Each kind has a generator of its own, so that a new kind changes no other's cases; so new ones go last.
-const KINDS: [fn(&mut Random) -> Outcome; 6] = [
+const KINDS: [fn(&mut Random) -> Outcome; 9] = [
     arithmetic::products,
     arithmetic::inverses,
     arithmetic::samples,
     encodings::samples,
     encodings::row_codes,
     encodings::encodings,
+    plans::samples,
+    plans::place_lists,
+    plans::plans,
 ];
 
 const SEED: u64 = 1;

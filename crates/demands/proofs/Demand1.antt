@@ -26,7 +26,8 @@ use Rattle.document.specs.declared.Answer.the-variants.{Done, Refused}
 use Rattle.document.specs.Refusals.{numberOf, indexOf, answerNumber, answerValue, Test, tried, Decides}
 use Rattle.document.specs.Profile.{ShapeAccepted, Accepted, profileTests, profileOf}
 use Rattle.document.specs.Encoding.{encoded, encodeTests, encodeOf}
-use Rattle.document.proofs.Decides.{decides-eq, decides-both, decides-not, decides-same}
+use Rattle.document.specs.Plan.{planTests, planOf}
+use Rattle.document.proofs.Decides.{decides-eq, decides-lt, decides-both, decides-not, decides-same}
 use Rattle.document.proofs.Accepts.{decides-shape, decides-constant, decides-strip}
 use Rattle.demands.specs.Refusals.{
   Sentence,
@@ -39,9 +40,9 @@ use Rattle.demands.specs.Refusals.{
   line,
   profileSentences,
   encodeSentences,
-  Numbered,
-  EncodeDecided,
+  planSentences,
   Demand1Encode,
+  Demand1Plan,
 }
 
 -- done is not refused
@@ -203,20 +204,22 @@ profile-decided p rest =
     (line refl (decides-not _ (decides-constant (p .t)))
     (line refl (decides-same _ (decides-not _ (decides-strip (p .s))) (outside (p .s)) (inside (p .s))) rest))
 
--- Each test of encoding decides its sentence of the table.
-pub encode-decided : EncodeDecided
-unfolding encodeTests encodeSentences
-encode-decided p d x =
-    profile-decided p
-    (line refl
-    (decides-not _
-    (decides-both _ _ (decides-eq (length d) (p .k * p .a * p .s)) (decides-eq (length x) (p .n * p .a * p .s))))
-    none)
-
 -- Encoding refuses exactly as the table says, and a refusal leaves the array as it was.
-pub demand-1-encode : Demand1Encode
-unfolding encodeOf
-demand-1-encode p d x = tried-exactly x 0 (encoded (profileOf p) d) (encode-decided p d x)
+pub demand-1-encode : (p : Numbers) (d x : List ℕ) → Demand1Encode p d x
+unfolding encodeOf encodeTests encodeSentences profileSentences numberOf indexOf
+demand-1-encode p d x = record {
+  numbered = (refl, refl);
+  decided = decides;
+  refuses = tried-exactly x 0 (encoded (profileOf p) d) decides;
+}
+  where
+    decides : Decided (encodeTests p d x) (encodeSentences p d x)
+    decides =
+        profile-decided p
+        (line refl
+        (decides-not _
+        (decides-both _ _ (decides-eq (length d) (p .k * p .a * p .s)) (decides-eq (length x) (p .n * p .a * p .s))))
+        none)
 
 -- Encoding that is done has buffers of the right lengths.
 pub done-sizes : (p : Numbers) (d x : List ℕ) (v : ℕ) → encodeOf p d x .0 ≡ Done v
@@ -224,9 +227,18 @@ pub done-sizes : (p : Numbers) (d x : List ℕ) (v : ℕ) → encodeOf p d x .0 
 unfolding encodeSentences
 done-sizes p d x v e =
     decided _ (decides-both _ _ (decides-eq (length d) (p .k * p .a * p .s)) (decides-eq (length x) (p .n * p .a * p .s)))
-    (λ n. done-later x p _ (encodeOf p d x) v (demand-1-encode p d x) e BufferLength (here n))
+    (λ n. done-later x p _ (encodeOf p d x) v (demand-1-encode p d x .refuses) e BufferLength (here n))
 
--- The table has document 01's numbers.
-pub numbered : Numbered
-unfolding encodeSentences profileSentences numberOf indexOf
-numbered p d x = (refl, refl)
+-- So does planning.
+pub demand-1-plan : (p : Numbers) (f : ℕ) (x : List ℕ) → Demand1Plan p f x
+unfolding planOf planTests planSentences profileSentences numberOf indexOf
+demand-1-plan p f x = record {
+  numbered = (refl, refl);
+  decided = decides;
+  refuses = tried-exactly x _ _ decides;
+}
+  where
+    decides : Decided (planTests p f x) (planSentences p f x)
+    decides =
+        profile-decided p
+        (line refl (decides-not _ (decides-lt f (p .n))) (line refl (decides-lt (length x) _) none))

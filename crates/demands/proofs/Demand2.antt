@@ -134,4 +134,4 @@ demand-2-encode p d x e = (rw done refl, rw done (encoded-is (profileOf p) accep
     done = tried-done x 0 (encoded (profileOf p) d) (encodeTests p d x) v is-done
 
     accepted : Accepted (profileOf p)
-    accepted = done-accepted x p _ (encodeOf p d x) v (demand-1-encode p d x) is-done
+    accepted = done-accepted x p _ (encodeOf p d x) v (demand-1-encode p d x .refuses) is-done

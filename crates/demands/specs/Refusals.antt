@@ -7,10 +7,11 @@
 -- Decided tests table                 : the tests that a call makes decide the sentences of the table, line by line
 -- profileSentences p                  : the lines for a profile's numbers
 -- encodeSentences p d x               : the table for encoding the data d into x
--- Numbered                            : its lines have document 01's numbers, in their order, and come with 0
--- EncodeDecided                       : the tests of encoding decide that table
--- Demand1Encode                       : encoding refuses as its table says
--- Shown in proofs/Demand1.antt: numbered, encode-decided, demand-1-encode.
+-- planSentences p f x                 : the table for planning the rebuild of node f into x
+-- Numbered table numbers              : the table's lines have these numbers, in this order, and come with 0
+-- Demand1Encode p d x                 : encoding refuses as its table says, which has document 01's numbers
+-- Demand1Plan p f x                   : so does planning
+-- Shown for all p, d, f and x in proofs/Demand1.antt: demand-1-encode, demand-1-plan.
 --
 -- That every entry point answers: it has no `requires`, and each function of the store is proved to end without a fault.
 use mathlib.Core.Path.{_≡_}
@@ -20,12 +21,13 @@ use Prim.Native.Nat.{ℕ, _*_, _≤_, _<_}
 use lib.ListN.{length}
 use Rattle.document.specs.declared.Numbers.{Numbers}
 use Rattle.document.specs.declared.Refusal.{Refusal}
-use Rattle.document.specs.declared.Refusal.the-variants.{Shape, Constant, StripLength, BufferLength}
+use Rattle.document.specs.declared.Refusal.the-variants.{Shape, Constant, StripLength, OutOfRange, BufferLength}
 use Rattle.document.specs.declared.Answer.{Answer}
 use Rattle.document.specs.declared.Answer.the-variants.{Refused}
 use Rattle.document.specs.Refusals.{numberOf, indexOf, Test, Decides}
-use Rattle.document.specs.Profile.{ShapeAccepted}
+use Rattle.document.specs.Profile.{ShapeAccepted, profileOf}
 use Rattle.document.specs.Encoding.{encodeTests, encodeOf}
+use Rattle.document.specs.Plan.{planned, planTests, planOf}
 
 -- One line of the table 'Refusals by number, in the order they are tried', for one call.
 pub record Sentence : Type 1 where
@@ -69,18 +71,30 @@ encodeSentences p d x =
     }
     ∷ [])
 
--- The refusals that encoding can give, by number, in the order they are tried; '8 and 9 come with the index .., the
--- others with 0'.
-abbrev pub Numbered : Type 0
-Numbered =
-    (p : Numbers) (d x : List ℕ)
-    → (map (λ s. numberOf (s .refusal)) (encodeSentences p d x) ≡ (1 ∷ 2 ∷ 3 ∷ 5 ∷ []))
-    × (map (λ s. indexOf (s .refusal)) (encodeSentences p d x) ≡ (0 ∷ 0 ∷ 0 ∷ 0 ∷ []))
+-- 4: 'lost node not below n'. 5: 'a lent buffer .. has the wrong length (plan: too short)', two bytes a place.
+unfoldable pub planSentences : Numbers → ℕ → List ℕ → List Sentence
+planSentences p f x =
+    profileSentences p
+    ++ (record { refusal = OutOfRange; says = f < p .n → ⊥ }
+    ∷ record {
+      refusal = BufferLength;
+      says = length x < 2 * length (planned (profileOf p) (record { 0 = f }));
+    }
+    ∷ [])
 
--- Each test of encoding is equivalent to its sentence.
-abbrev pub EncodeDecided : Type 1
-EncodeDecided = (p : Numbers) (d x : List ℕ) → Decided (encodeTests p d x) (encodeSentences p d x)
+-- 'by number': the lines of a table have these numbers; '8 and 9 come with the index .., the others with 0'.
+abbrev pub Numbered : List Sentence → List ℕ → Type 0
+Numbered table numbers =
+    (map (λ s. numberOf (s .refusal)) table ≡ numbers) × (map (λ s. indexOf (s .refusal)) table ≡ map (λ m. 0) numbers)
 
 -- Demand 1 for encoding, whatever the numbers and the bytes.
-abbrev pub Demand1Encode : Type 1
-Demand1Encode = (p : Numbers) (d x : List ℕ) → RefusesExactly (encodeSentences p d x) x (encodeOf p d x)
+pub record Demand1Encode (p : Numbers) (d x : List ℕ) : Type 1 where
+  pub numbered : Numbered (encodeSentences p d x) (1 ∷ 2 ∷ 3 ∷ 5 ∷ [])
+  pub decided : Decided (encodeTests p d x) (encodeSentences p d x)
+  pub refuses : RefusesExactly (encodeSentences p d x) x (encodeOf p d x)
+
+-- Demand 1 for planning.
+pub record Demand1Plan (p : Numbers) (f : ℕ) (x : List ℕ) : Type 1 where
+  pub numbered : Numbered (planSentences p f x) (1 ∷ 2 ∷ 3 ∷ 4 ∷ 5 ∷ [])
+  pub decided : Decided (planTests p f x) (planSentences p f x)
+  pub refuses : RefusesExactly (planSentences p f x) x (planOf p f x)

@@ -4,3 +4,5 @@ pub mod Accepts
 pub mod Bounds
 pub mod Arrays
 pub mod Rows
+pub mod Price
+pub mod Planned

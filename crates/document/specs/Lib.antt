@@ -3,3 +3,4 @@ pub mod Profile
 pub mod Places
 pub mod Bytes
 pub mod Encoding
+pub mod Plan

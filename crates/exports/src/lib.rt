@@ -5,6 +5,7 @@ ghost use Rattle.gf256.specs.Field;
 ghost use Rattle.gf256.specs.Field.{_⊗_};
 ghost use Rattle.document.specs.Refusals.{answerValue};
 ghost use Rattle.document.specs.Encoding.{encodeOf};
+ghost use Rattle.document.specs.Plan.{planOf};
 ghost use Rattle.exports.specs.Packed.{packed, packedWith};
 use document::Answer;
 use document::Numbers;
@@ -34,6 +35,22 @@ pub extern "C" fn whaupfield_encode(
         (record { n = n; k = k; a = a; t = t; s = s }) (now (input .entry)) (now (array .entry))) ⌝ }
 {
     pack(encode::encode(Numbers { n, k, a, t, s }, input, array))
+}
+
+#[no_mangle]
+pub extern "C" fn whaupfield_plan(
+    n: usize,
+    k: usize,
+    a: usize,
+    t: usize,
+    s: usize,
+    lost: usize,
+    places: &mut [u8],
+) -> u64
+    ensures { λ r. ⌜ (r, now (places .exit)) ≡ packedWith (planOf
+        (record { n = n; k = k; a = a; t = t; s = s }) lost (now (places .entry))) ⌝ }
+{
+    pack(plan::plan(Numbers { n, k, a, t, s }, lost, places))
 }
 
 #[no_mangle]

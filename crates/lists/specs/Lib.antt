@@ -1,1 +1,3 @@
 pub mod Listed
+pub mod Put
+pub mod Each

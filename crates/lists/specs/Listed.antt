@@ -2,8 +2,9 @@
 --
 -- listed n f       : f 0, f 1, .. f (n - 1)
 -- patched at m f x : x with f b in the place of its entry at + b, for each b below m
-use mathlib.Core.Bool.{_&&_, cond}
-use mathlib.Core.List.{List, [], _∷_}
+-- rising n P       : the numbers below n for which P holds, rising
+use mathlib.Core.Bool.{Bool, _&&_, cond}
+use mathlib.Core.List.{List, [], _∷_, _++_}
 use Prim.Native.Nat.{ℕ, zero, suc, _+_, _-_}
 use lib.Dec.{leb, ltb}
 use lib.ListN.{length, getD}
@@ -14,3 +15,7 @@ listed (suc n) f = f 0 ∷ listed n (λ e. f (suc e))
 
 unfoldable pub patched : ℕ → ℕ → (ℕ → ℕ) → List ℕ → List ℕ
 patched at m f x = listed (length x) (λ p. cond (leb at p && ltb p (at + m)) (f (p - at)) (getD x p 0))
+
+unfoldable pub rising : ℕ → (ℕ → Bool) → List ℕ
+rising zero P = []
+rising (suc n) P = rising n P ++ cond (P n) (n ∷ []) []

@@ -8,7 +8,7 @@ use mathlib.Core.List.{List, [], _∷_, _++_, map}
 use Prim.Native.Nat.{ℕ}
 use native.Mathlib.Decide.{ℕ-discrete, decLt}
 use lib.ListN.{take, drop, replicate}
-use Rattle.lists.specs.Listed.{listed}
+use Rattle.lists.specs.Listed.{listed, rising}
 use Rattle.gf256.specs.Field.{_⊕_, _⊗_, double, bitProduct, raised, inverse}
 use Rattle.algebra.specs.Sum.{sum}
 use Rattle.algebra.specs.Weight.{weight}
@@ -28,6 +28,17 @@ use Rattle.document.specs.Encoding.{
   encodeTests,
   encodeOf,
 }
+use Rattle.document.specs.Plan.{
+  isOwn,
+  isDiagonal,
+  isOffDiagonal,
+  pairsAt,
+  planOver,
+  planned,
+  planBytes,
+  planTests,
+  planOf,
+}
 
 pub record Case : Type 0 where
   pub gives : List ℕ
@@ -45,11 +56,11 @@ outcome (answer, x) = answerNumber answer ∷ answerValue answer ∷ x
 abbrev pub outerColumns : Answer × List ℕ → List ℕ
 outerColumns (answer, x) = outcome (answer, take 2 x ++ drop 6 x)
 
--- An array that is lent, with something in it.
+-- A buffer that is lent, with something in it.
 unfoldable pub lent : List ℕ
 lent = replicate 8 0xFF
 
--- M1 to M4 and M9, in document 01's order.
+-- M1 to M6 and M9, in document 01's order.
 unfoldable pub marked : List Case
 marked =
     record { gives = 128 ⊗ 128 ∷ []; says = 19 ∷ [] }
@@ -58,6 +69,14 @@ marked =
     ∷ record {
       gives = outcome (encodeOf (profile 2) (0x01 ∷ 0x00 ∷ 0x02 ∷ 0x04 ∷ []) lent);
       says = 0 ∷ 0 ∷ 0x01 ∷ 0x04 ∷ 0x02 ∷ 0x04 ∷ 0x07 ∷ 0x00 ∷ 0x0C ∷ 0x0C ∷ [];
+    }
+    ∷ record {
+      gives = outcome (planOf (profile 2) 0 lent);
+      says = 0 ∷ 4 ∷ 1 ∷ 0 ∷ 2 ∷ 0 ∷ 3 ∷ 0 ∷ 2 ∷ 1 ∷ [];
+    }
+    ∷ record {
+      gives = outcome (planOf (profile 2) 3 lent);
+      says = 0 ∷ 4 ∷ 2 ∷ 1 ∷ 1 ∷ 1 ∷ 0 ∷ 1 ∷ 1 ∷ 0 ∷ [];
     }
     ∷ record {
       gives = outerColumns (encodeOf (profile 5) (0x00 ∷ 0x05 ∷ 0x01 ∷ 0x06 ∷ []) lent);
@@ -69,5 +88,6 @@ marked =
 pub shown : map (λ c. c .gives) marked ≡ map (λ c. c .says) marked
 unfolding marked lent encodeOf encodeTests profileTests shapeAccepted constantAccepted stripAccepted tried answerNumber
     answerValue encoded laidOut coupledAt constantOf baseAt byteAt start listed sum weight byte number bytes _⊕_ _⊗_
-    double bitProduct raised inverse ℕ-discrete decLt
+    double bitProduct raised inverse ℕ-discrete decLt planOf planTests planned planOver pairsAt planBytes isOwn isDiagonal
+    isOffDiagonal rising
 shown = refl

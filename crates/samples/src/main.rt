@@ -1,5 +1,5 @@
-// Runs document 01's samples and edges that concern the field, the profile and encoding, and prints what each gives. The
-// file `stdout` says what document 01 says; the marked cases are shown in specs/Marked.antt besides.
+// Runs document 01's samples and edges that concern the field, the profile, encoding and the plan, and prints what each
+// gives. The file `stdout` says what document 01 says; the marked cases are shown in specs/Marked.antt besides.
 ghost use Prim.Native.Nat.{_≤_, _<_};
 use document::Answer;
 use document::Numbers;
@@ -25,6 +25,23 @@ fn print_bytes(bytes: &[u8]) {
     let mut i = 0;
     while i < bytes.len() {
         print_byte(bytes[i]);
+        i += 1;
+    }
+}
+
+fn print_place(node: u8, row: u8) {
+    print(b" (");
+    io::print_decimal(STDOUT_FILENO, node as u64);
+    print(b",");
+    io::print_decimal(STDOUT_FILENO, row as u64);
+    print(b")");
+}
+
+// Places of two bytes each, as (node,row).
+fn print_places(places: &[u8]) {
+    let mut i = 0;
+    while i < places.len() / 2 {
+        print_place(places[2 * i], places[2 * i + 1]);
         i += 1;
     }
 }
@@ -63,6 +80,42 @@ fn zero_columns() {
     print_bytes(&array[6..8]);
 }
 
+// M5, M6: the plan for a lost node of (4,2,2), as document 01 writes places.
+fn print_plan(lost: usize) {
+    let p = Numbers {
+        n: 4,
+        k: 2,
+        a: 2,
+        t: 2,
+        s: 1,
+    };
+    let mut places = [0xFFu8; 8];
+    plan::plan(p, lost, &mut places);
+    print_places(&places);
+}
+
+// The numbers of places of document 01's examples.
+fn print_price(name: &[u8], n: usize, k: usize, a: usize) {
+    let p = Numbers {
+        n: n,
+        k: k,
+        a: a,
+        t: 2,
+        s: 1,
+    };
+    let mut places = [0u8; 76];
+    print(name);
+    let answer = plan::plan(p, 0, &mut places);
+    match answer {
+        Answer::Done(v) => {
+            print(b" ");
+            io::print_decimal(STDOUT_FILENO, v as u64);
+        }
+        Answer::Refused(_) => print(b" refused"),
+    }
+    print(b"\n");
+}
+
 // Encodes data of `size` bytes into an array of `room` bytes with a profile on its edge, and prints whether it passes.
 fn print_edge(name: &[u8], p: Numbers, size: usize, room: usize)
     requires { ⌜ (size ≤ 2052) × (room ≤ 4104) ⌝ }
@@ -90,6 +143,10 @@ fn main() {
     print_number(gf256::mul(3, 3));
     print(b"\nM4");
     sample_array();
+    print(b"\nM5");
+    print_plan(0);
+    print(b"\nM6");
+    print_plan(3);
     print(b"\nM9");
     zero_columns();
     print(b"\n");
@@ -177,4 +234,10 @@ fn main() {
         2,
         8,
     );
+    print_price(b"(4,2,2)", 4, 2, 2);
+    print_price(b"(6,2,2)", 6, 2, 2);
+    print_price(b"(9,6,3)", 9, 6, 3);
+    print_price(b"(14,10,2)", 14, 10, 2);
+    print_price(b"(12,8,4)", 12, 8, 4);
+    print_price(b"(24,20,4)", 24, 20, 4);
 }

@@ -1,13 +1,9 @@
--- `exports::whaupfield_encode` meets its contract: the answer of encoding, packed; its value is 0.
-use mathlib.Core.Path.{_≡_, ap, _∙_}
-use mathlib.Core.List.{List}
+-- `exports::whaupfield_encode` meets its contract: the answer of encoding, packed.
+use mathlib.Core.Path.{ap, _∙_}
 use Prim.Native.Nat.{ℕ}
-use native.Mathlib.Omega.{arith}
 use borrow.Author.Needs.{needs}
-use Rattle.document.specs.declared.Answer.{Answer}
-use Rattle.document.specs.Refusals.{answerValue}
 use Rattle.exports.specs.Packed.{packedWith}
-use Rattle.exports.proofs.Values.{encode-value}
+use Rattle.exports.proofs.Values.{packable, encode-value}
 use Rattle.exports.proofs.whaupfield_encode.Statement.{statement}
 use Rattle.exports.proofs.whaupfield_encode.Tie as tie
 
@@ -15,11 +11,7 @@ encode-requires : tie.Need-encode-requires
 encode-requires c κs = search needs
 
 pack-requires : tie.Need-pack-requires
-pack-requires c κs =
-    let e = c .before .before in
-    let value : answerValue (e .encode .result) ≡ 0 =
-    ap (λ (o : Answer × List ℕ). answerValue (o .0)) (e .encode .ensures) ∙ encode-value _ _ _ in
-    omega arith
+pack-requires c κs = packable _ _ _ (c .before .before .encode .ensures) (encode-value _ _ _)
 
 same-length : tie.Need-same-length
 same-length c = search needs

@@ -1,0 +1,246 @@
+//! The kinds about the rebuild plan: samples, lists of places, accepted and refused calls.
+
+use crate::calls::{refused_nodes_and_rows, Call, Tally, HUGE};
+use crate::code::{self, Place, Profile, Refusal};
+use crate::library::{self, Answer, Lent};
+use crate::random::Random;
+use crate::{hex, Count, Outcome};
+
+/// One call: the profile, the lost node and what the buffer for the places holds before.
+struct Case {
+    profile: Profile,
+    lost: usize,
+    places: Vec<u8>,
+}
+
+impl Case {
+    /// Random bytes of this length.
+    fn new(profile: Profile, lost: usize, places_length: usize, random: &mut Random) -> Case {
+        Case { profile, lost, places: random.bytes(places_length) }
+    }
+
+    fn disagreement(&self, what: String) -> String {
+        let Profile { n, k, rows, t, s } = self.profile;
+        let (lost, places_length) = (self.lost, self.places.len());
+        format!(
+            "plan n={n} k={k} A={rows} t={t} S={s} lost={lost} places_len={places_length} places={}: {what}",
+            hex(&self.places)
+        )
+    }
+
+    /// Calls the library; compares the answer with the number of places or the refusal in `expected`, and every
+    /// byte that must not change. Gives the plan's bytes, none after a refusal.
+    fn call(&self, expected: Result<usize, Refusal>, random: &mut Random) -> Result<Vec<u8>, String> {
+        let mut places = Lent::new(&self.places, random);
+        let answer = library::plan(&self.profile, self.lost, &mut places);
+        let due = match expected {
+            Ok(count) => Answer { number: 0, value: count as u64 },
+            Err(refusal) => Answer { number: refusal as u8, value: 0 },
+        };
+        if answer != due {
+            return Err(self.disagreement(format!("the library answers {answer}, expected {due}")));
+        }
+        if let Some(change) = places.change_outside(2 * expected.unwrap_or(0)) {
+            return Err(self.disagreement(format!("the buffer is changed where it must stay, {change}")));
+        }
+        Ok(places.bytes()[..2 * expected.unwrap_or(0)].to_vec())
+    }
+
+    fn same_places(&self, given: &[u8], expected: &[u8]) -> Result<(), String> {
+        if given == expected {
+            return Ok(());
+        }
+        Err(self.disagreement(format!("the library's plan is {}, expected {}", hex(given), hex(expected))))
+    }
+}
+
+impl Call for Case {
+    fn compare(&self, random: &mut Random) -> Result<Option<Refusal>, String> {
+        match code::plan(&self.profile, self.lost, self.places.len()) {
+            Err(refusal) => {
+                self.call(Err(refusal), random)?;
+                Ok(Some(refusal))
+            }
+            Ok(expected) => {
+                let given = self.call(Ok(expected.len()), random)?;
+                self.same_places(&given, &code::plan_bytes(&expected))?;
+                Ok(None)
+            }
+        }
+    }
+}
+
+/// Document 01's M5 and M6, and its six examples of the number of places with each lost node, as they are
+/// printed there.
+pub fn samples(random: &mut Random) -> Outcome {
+    let profile = Profile { n: 4, k: 2, rows: 2, t: 2, s: 1 };
+    for (lost, expected) in [(0, [1, 0, 2, 0, 3, 0, 2, 1]), (3, [2, 1, 1, 1, 0, 1, 1, 0])] {
+        let case = Case { profile, lost, places: vec![0xEE; 8] };
+        let given = case.call(Ok(4), random)?;
+        case.same_places(&given, &expected)?;
+    }
+
+    let mut cases = 2;
+    let examples =
+        [((4, 2, 2), 4), ((6, 2, 2), 3), ((9, 6, 3), 12), ((14, 10, 2), 15), ((12, 8, 4), 17), ((24, 20, 4), 38)];
+    for ((n, k, rows), count) in examples {
+        for lost in 0..n {
+            let case = Case { profile: Profile { n, k, rows, ..profile }, lost, places: vec![0xEE; 2 * count] };
+            case.call(Ok(count), random)?;
+            cases += 1;
+        }
+    }
+    Ok(vec![Count { what: "samples of plans", cases }])
+}
+
+/// The library's plans without the document's steps: as many places as the formula says, all different, all in
+/// the array, none on the lost node.
+pub fn place_lists(random: &mut Random) -> Outcome {
+    let mut cases = 0;
+    for (n, k, rows) in code::all_accepted() {
+        for lost in 0..n {
+            let profile = random_profile(n, k, rows, random);
+            let count = profile.number_of_places();
+            let case = Case::new(profile, lost, 2 * count, random);
+            let given = case.call(Ok(count), random)?;
+            check_places(&case, &given)?;
+            cases += 1;
+        }
+    }
+    Ok(vec![Count { what: "lists of places", cases }])
+}
+
+fn check_places(case: &Case, given: &[u8]) -> Result<(), String> {
+    let places: Vec<Place> = given.chunks(2).map(|pair| Place { node: pair[0].into(), row: pair[1].into() }).collect();
+    for (index, place) in places.iter().enumerate() {
+        let wrong = if place.node >= case.profile.n || place.row >= case.profile.rows {
+            "is not in the array"
+        } else if place.node == case.lost {
+            "is on the lost node"
+        } else if places[..index].contains(place) {
+            "is listed before"
+        } else {
+            continue;
+        };
+        let Place { node, row } = place;
+        let what = format!("place {index}, node {node} row {row}, {wrong} in the library's plan {}", hex(given));
+        return Err(case.disagreement(what));
+    }
+    Ok(())
+}
+
+/// Whole calls, each counted as accepted or refused.
+pub fn plans(random: &mut Random) -> Outcome {
+    let mut tally = Tally::default();
+    every_plan(&mut tally, random)?;
+    every_small_number(&mut tally, random)?;
+    refused_in_every_order(&mut tally, random)?;
+    mixed_calls(&mut tally, random)?;
+    Ok(tally.counts("plans accepted", "plans refused"))
+}
+
+/// An accepted t and S, often at an edge, with these accepted numbers.
+fn random_profile(n: usize, k: usize, rows: usize, random: &mut Random) -> Profile {
+    let (any_t, any_s) = (random.between(2, 255), random.between(1, 512));
+    Profile { n, k, rows, t: random.one_of(&[2, 255, any_t, any_t]), s: random.one_of(&[1, 512, any_s, any_s]) }
+}
+
+/// Each accepted (n, k, A) and each lost node, with a buffer exactly long enough, longer, one byte too short,
+/// and shorter still; then with the first nodes past the last.
+fn every_plan(tally: &mut Tally, random: &mut Random) -> Result<(), String> {
+    for (n, k, rows) in code::all_accepted() {
+        for lost in 0..n + 2 {
+            let profile = random_profile(n, k, rows, random);
+            let needed = 2 * profile.number_of_places();
+            let (longer, shorter) = (needed + random.between(2, 100), random.between(0, needed - 1));
+            for length in [needed, needed + 1, longer, needed - 1, needed / 2, shorter, 0] {
+                tally.compare(Case::new(profile, lost, length, random), random)?;
+            }
+        }
+    }
+    Ok(())
+}
+
+/// The lengths to lend with these numbers: the one that fits, one off, and none at all. Numbers that are not
+/// accepted get those of (4,2,2), and one that is enough for every plan.
+fn every_length(profile: &Profile) -> [usize; 4] {
+    let accepted = code::nodes_and_rows_accepted(profile.n, profile.k, profile.rows);
+    let needed = if accepted { 2 * profile.number_of_places() } else { 8 };
+    [needed, needed - 1, 0, if accepted { needed + 1 } else { 80 }]
+}
+
+/// All small n, k and A; then all small t, S and lost nodes of accepted n, k and A.
+fn every_small_number(tally: &mut Tally, random: &mut Random) -> Result<(), String> {
+    let mut calls = Vec::new();
+    for n in 0..=30 {
+        for k in 0..=30 {
+            calls.extend((0..=6).map(|rows| (random_profile(n, k, rows, random), random.between(0, 30))));
+        }
+    }
+    for (n, k, rows) in [(4, 2, 2), (6, 3, 3), (8, 4, 4)] {
+        let profile = Profile { n, k, rows, t: 3, s: 2 };
+        calls.extend((0..=600).map(|t| (Profile { t, ..profile }, n - 1)));
+        calls.extend((0..=1100).map(|s| (Profile { s, ..profile }, n - 1)));
+        calls.extend((0..=600).map(|lost| (profile, lost)));
+    }
+    for (profile, lost) in calls {
+        for length in every_length(&profile) {
+            tally.compare(Case::new(profile, lost, length, random), random)?;
+        }
+    }
+    Ok(())
+}
+
+/// Every mixture of refusals 1, 2, 3, 4 and 5, also of none, with each way to come to each.
+fn refused_in_every_order(tally: &mut Tally, random: &mut Random) -> Result<(), String> {
+    let mut shapes = vec![(4, 2, 2), (4, 1, 2), (6, 3, 3), (8, 4, 4), (24, 20, 4)];
+    shapes.extend(refused_nodes_and_rows());
+    for &(n, k, rows) in &shapes {
+        for t in [2, 255, 0, 1, 256, 258, 1 << 32, (1 << 63) + 2, usize::MAX] {
+            for s in [1, 512, 0, 513, 65537, 1 << 32, 1 << 63, usize::MAX] {
+                let profile = Profile { n, k, rows, t, s };
+                let mut nodes = vec![0, n.saturating_sub(1), n, n.saturating_add(1), 256, 260];
+                nodes.extend(HUGE);
+                for lost in nodes {
+                    for length in every_length(&profile) {
+                        tally.compare(Case::new(profile, lost, length, random), random)?;
+                    }
+                }
+            }
+        }
+    }
+    Ok(())
+}
+
+/// A number near the edges of what is accepted, or one that a narrower type would cut down to such a number.
+fn edge(edges: &[usize], random: &mut Random) -> usize {
+    let small = random.between(0, 30);
+    let cut_down = small + random.one_of(&[1 << 8, 1 << 16, 1 << 32, 1 << 63]);
+    let (near, huge) = (random.one_of(edges), random.one_of(&HUGE));
+    random.one_of(&[near, near, small, cut_down, huge])
+}
+
+/// Accepted numbers, one or several of them replaced by others, and any length of the buffer.
+fn mixed_calls(tally: &mut Tally, random: &mut Random) -> Result<(), String> {
+    let accepted = code::all_accepted();
+    for _ in 0..200_000 {
+        let (n, k, rows) = random.one_of(&accepted);
+        let mut profile = random_profile(n, k, rows, random);
+        let mut lost = random.between(0, n - 1);
+        for _ in 0..random.between(1, 3) {
+            match random.between(0, 9) {
+                0 => profile.n = edge(&[k, n - 1, n + 1, 24, 25, 260], random),
+                1 => profile.k = edge(&[0, 1, n - rows, n - rows + 1, n], random),
+                2 => profile.rows = edge(&[0, 1, 2, 3, 4, 5], random),
+                3 | 4 => profile.t = edge(&[0, 1, 2, 255, 256, 257], random),
+                5 | 6 => profile.s = edge(&[0, 1, 512, 513, 1024], random),
+                _ => lost = edge(&[n - 1, n, n + 1, 256, 260], random),
+            }
+        }
+        let needed = every_length(&profile)[0];
+        let any = random.between(0, 100);
+        let length = random.one_of(&[needed, needed, needed + 1, needed - 1, any]);
+        tally.compare(Case::new(profile, lost, length, random), random)?;
+    }
+    Ok(())
+}

@@ -1,0 +1,164 @@
+-- A plan lists no place twice, and none of the lost node: over document 01's walk, and over any whose steps go over the
+-- right nodes, none of them twice.
+use mathlib.Core.Path.{_≡_, refl, sym, ap, subst, _∙_}
+use mathlib.Core.Logic.{_≢_}
+use mathlib.Core.Bool.{true}
+use mathlib.Core.List.{List, _++_, map}
+use Prim.Native.Nat.{ℕ, _-_, _/_, _%_, _<_}
+use native.Mathlib.Nat.{div-add-mod', mod-lt}
+use lib.Arith.{digits-div}
+use lib.ListN.{length}
+use Rattle.lists.specs.Each.{Each, none, also, Distinct, empty, new}
+use Rattle.lists.proofs.Each.{
+  each-append,
+  each-take,
+  each-map,
+  each-image,
+  each-both,
+  distinct-append,
+  distinct-take,
+  distinct-image,
+}
+use Rattle.lists.proofs.Rising.{rising-each, rising-distinct}
+use Rattle.document.specs.declared.Profile.{Profile}
+use Rattle.document.specs.declared.Node.{Node}
+use Rattle.document.specs.declared.Place.{Place}
+use Rattle.document.specs.Places.{partnerOf}
+use Rattle.document.specs.Plan.{
+  isOwn,
+  isDiagonal,
+  isOffDiagonal,
+  rowAt,
+  pairsAt,
+  Walk,
+  walkOf,
+  stepTwo,
+  stepThree,
+  planOver,
+}
+use Rattle.document.proofs.Decides.{decides-eq, decides-both, decides-not}
+
+-- any walk whose steps go over the right nodes, none of them twice
+pub record Sound (A : ℕ) (f : Node) (w : Walk) : Type 0 where
+  pub own : Each (λ j. isOwn A f j ≡ true) (w .own)
+  pub own-once : Distinct (w .own)
+  pub diagonal : Each (λ j. isDiagonal A f j ≡ true) (w .diagonal)
+  pub diagonal-once : Distinct (w .diagonal)
+  pub off-diagonal : Each (λ j. isOffDiagonal A f j ≡ true) (w .off-diagonal)
+  pub off-diagonal-once : Distinct (w .off-diagonal)
+
+module _ (p : Profile) (f : Node) where
+  open Profile p using (n, a as A)
+
+  pub walk-sound : Sound A f (walkOf p f)
+  walk-sound = record {
+    own = each-map (λ j r. r .0) (rising-each (isOwn A f) n);
+    own-once = rising-distinct (isOwn A f) n;
+    diagonal = each-map (λ j r. r .0) (rising-each (isDiagonal A f) n);
+    diagonal-once = rising-distinct (isDiagonal A f) n;
+    off-diagonal = each-map (λ j r. r .0) (rising-each (isOffDiagonal A f) n);
+    off-diagonal-once = rising-distinct (isOffDiagonal A f) n;
+  }
+
+module _ (A : ℕ) (A>0 : 0 < A) (k : ℕ) (f : Node) where
+  -- f's group and local column
+  abbrev g : ℕ
+  g = f .0 / A
+
+  abbrev c : ℕ
+  c = f .0 % A
+
+  c<A : c < A
+  c<A = mod-lt (f .0) A>0
+
+  -- what the tests of the three steps say
+  own-is : (j : ℕ) → isOwn A f j ≡ true → (j / A ≡ g) × (j % A ≢ c)
+  unfolding isOwn
+  own-is j = decides-both _ _ (decides-eq (j / A) g) (decides-not _ (decides-eq (j % A) c)) .0
+
+  diagonal-is : (j : ℕ) → isDiagonal A f j ≡ true → (j / A ≢ g) × (j % A ≡ c)
+  unfolding isDiagonal
+  diagonal-is j = decides-both _ _ (decides-not _ (decides-eq (j / A) g)) (decides-eq (j % A) c) .0
+
+  off-is : (j : ℕ) → isOffDiagonal A f j ≡ true → (j / A ≢ g) × (j % A ≢ c)
+  unfolding isOffDiagonal
+  off-is j = decides-both _ _ (decides-not _ (decides-eq (j / A) g)) (decides-not _ (decides-eq (j % A) c)) .0
+
+  -- what holds of both places that each node stands for in step 3
+  each-pairs : {R : ℕ → Type 0} {S : Place → Type 0}
+      → ((j : ℕ) → R j → S (rowAt A f j) × S (partnerOf A (rowAt A f j))) → {js : List ℕ} → Each R js
+      → Each S (pairsAt A f js)
+  unfolding pairsAt
+  each-pairs h none = none
+  each-pairs h (also r rs) = also (h _ r .0) (also (h _ r .1) (each-pairs h rs))
+
+  -- the partner of a place lies in the same group
+  partner-group : (j : ℕ) → partnerOf A (rowAt A f j) .node .0 / A ≡ j / A
+  partner-group j = digits-div (j / A) c<A
+
+  row-injective : (x y : ℕ) → rowAt A f x ≡ rowAt A f y → x ≡ y
+  row-injective x y e = ap (λ (q : Place). q .node .0) e
+
+  partner-injective : (x y : ℕ) → partnerOf A (rowAt A f x) ≡ partnerOf A (rowAt A f y) → x ≡ y
+  partner-injective x y e =
+      let groups : x / A ≡ y / A =
+      sym (partner-group x) ∙ ap (λ (q : Place). q .node .0 / A) e ∙ partner-group y in
+      let columns : x % A ≡ y % A = ap (λ (q : Place). q .row .0) e in
+      cc (div-add-mod' x A, div-add-mod' y A)
+
+  -- the partner of an off-diagonal place lies in another row than c
+  row-ne-partner : (x y : ℕ) → y % A ≢ c → rowAt A f x ≢ partnerOf A (rowAt A f y)
+  row-ne-partner x y h e = h (sym (ap (λ (q : Place). q .row .0) e))
+
+  pairs-distinct : {js : List ℕ} → Each (λ j. j % A ≢ c) js → Distinct js → Distinct (pairsAt A f js)
+  unfolding pairsAt
+  pairs-distinct none empty = empty
+  pairs-distinct (also {x = j} o os) (new d ds) =
+      let others : Each (λ y. (y % A ≢ c) × (j ≢ y)) _ = each-both os d in
+      new
+      (also (row-ne-partner j j o)
+      (each-pairs (λ y r. ((λ e. r .1 (row-injective j y e)), row-ne-partner j y (r .0))) others))
+      (new (each-pairs (λ y r. ((λ e. row-ne-partner y j o (sym e)), λ e. r .1 (partner-injective j y e))) others)
+      (pairs-distinct os ds))
+
+  module _ (w : Walk) (sound : Sound A f w) where
+    own-nodes : Each (λ j. (j / A ≡ g) × (j % A ≢ c)) (w .own)
+    own-nodes = each-map own-is (sound .own)
+
+    second-nodes : Each (λ j. (j / A ≢ g) × (j % A ≡ c)) (stepTwo k w)
+    second-nodes = each-take k (each-map diagonal-is (sound .diagonal))
+
+    third-nodes : Each (λ j. (j / A ≢ g) × (j % A ≢ c)) (stepThree k w)
+    third-nodes = each-take (k - length (stepTwo k w)) (each-map off-is (sound .off-diagonal))
+
+    -- steps 2 and 3 stay outside f's group
+    outside : Each (λ q. q .node .0 / A ≢ g) (map (rowAt A f) (stepTwo k w) ++ pairsAt A f (stepThree k w))
+    outside =
+        each-append (each-image (rowAt A f) (λ j r. r .0) second-nodes)
+        (each-pairs (λ j r. (r .0, λ e. r .0 (sym (partner-group j) ∙ e))) third-nodes)
+
+    pub over-off-lost : Each (λ q. q .node .0 ≢ f .0) (planOver A k f w)
+    unfolding planOver
+    over-off-lost =
+        each-append (each-image (rowAt A f) (λ j r e. r .1 (ap (λ (m : ℕ). m % A) e)) own-nodes)
+        (each-map (λ q r e. r (ap (λ (m : ℕ). m / A) e)) outside)
+
+    pub over-distinct : Distinct (planOver A k f w)
+    unfolding planOver
+    over-distinct =
+        distinct-append (λ q r inside out e. out (sym (ap (λ (q : Place). q .node .0 / A) e) ∙ inside))
+        (each-image (rowAt A f) (λ j r. r .0) own-nodes) outside
+        (distinct-image (rowAt A f) row-injective (sound .own-once)) later
+      where
+        -- at f's local column and in its row
+        Diagonal : Place → Type 0
+        Diagonal q = (q .node .0 % A ≡ c) × (q .row .0 ≡ c)
+
+        later : Distinct (map (rowAt A f) (stepTwo k w) ++ pairsAt A f (stepThree k w))
+        later =
+            distinct-append {R = Diagonal} {S = λ q. Diagonal q → ⊥} (λ q r on off e. off (subst Diagonal e on))
+            (each-image (rowAt A f) (λ j r. (r .1, refl)) second-nodes)
+            (each-pairs (λ j r. ((λ on. r .1 (on .0)), λ on. r .1 (on .1))) third-nodes)
+            (distinct-image (rowAt A f) row-injective (distinct-take k (sound .diagonal-once)))
+            (pairs-distinct (each-map (λ j r. r .1) third-nodes)
+            (distinct-take (k - length (stepTwo k w)) (sound .off-diagonal-once)))

@@ -1,0 +1,116 @@
+-- 'The rebuild plan and its price': the places that are read to rebuild a lost node f. Here c is f's local column.
+--
+-- isOwn A f j         : node j is another node of f's own group
+-- isDiagonal A f j    : node j lies in another group, and its row c on the diagonal: its local column is c
+-- isOffDiagonal A f j : node j lies in another group, at another local column
+-- Walk                : the nodes that each of the three steps goes over, in their order
+-- walkOf p f          : document 01's walk: each step by rising node
+-- rowAt A f j         : the place of node j, row c
+-- pairsAt A f js      : for each of the nodes js its row c, then the partner of that place
+-- stepTwo k w         : the nodes that step 2 lists
+-- stepThree k w       : the nodes that step 3 lists
+-- planOver A k f w    : the places of the three steps over the walk w
+-- planned p f         : the planned places
+-- priceOf n k A       : their number
+-- planBytes qs        : places written as two bytes each
+-- planTests p f x     : the refusals of planning, in their order
+-- planOf p f x        : planning into x: the answer, and what x holds then
+use mathlib.Core.Bool.{Bool, _&&_, not}
+use mathlib.Core.List.{List, [], _∷_, _++_, map}
+use Prim.Native.Nat.{ℕ, _+_, _-_, _*_, _/_}
+use lib.Dec.{eqb, ltb}
+use lib.ListN.{length, take, drop}
+use Rattle.lists.specs.Listed.{rising}
+use Rattle.document.specs.declared.Numbers.{Numbers}
+use Rattle.document.specs.declared.Profile.{Profile}
+use Rattle.document.specs.declared.Node.{Node}
+use Rattle.document.specs.declared.Place.{Place}
+use Rattle.document.specs.declared.Refusal.the-variants.{OutOfRange, BufferLength}
+use Rattle.document.specs.declared.Answer.{Answer}
+use Rattle.document.specs.declared.Answer.the-variants.{Done, Refused}
+use Rattle.document.specs.Refusals.{Test, tried}
+use Rattle.document.specs.Profile.{profileTests, profileOf}
+use Rattle.document.specs.Places.{place, groupOf, localColumn, partnerOf}
+
+module _ (A : ℕ) (f : Node) where
+  -- Whether node j lies in f's group, and at f's local column.
+  abbrev sameGroup : ℕ → Bool
+  sameGroup j = eqb (j / A) (groupOf A f)
+
+  abbrev sameColumn : ℕ → Bool
+  sameColumn j = eqb (localColumn A (record { 0 = j })) (localColumn A f)
+
+  -- 'every other node of f's own group'
+  unfoldable pub isOwn : ℕ → Bool
+  isOwn j = sameGroup j && not (sameColumn j)
+
+  -- 'the node with local column c in each other group'
+  unfoldable pub isDiagonal : ℕ → Bool
+  isDiagonal j = not (sameGroup j) && sameColumn j
+
+  -- 'each remaining node outside f's group whose local column is not c'
+  unfoldable pub isOffDiagonal : ℕ → Bool
+  isOffDiagonal j = not (sameGroup j) && not (sameColumn j)
+
+  -- 'row c of ..'
+  abbrev pub rowAt : ℕ → Place
+  rowAt j = place j (localColumn A f)
+
+  -- 'with two places: its row c, then the partner of that place'
+  unfoldable pub pairsAt : List ℕ → List Place
+  pairsAt [] = []
+  pairsAt (j ∷ js) = rowAt j ∷ partnerOf A (rowAt j) ∷ pairsAt js
+
+pub record Walk : Type 0 where
+  pub own : List ℕ
+  pub diagonal : List ℕ
+  pub off-diagonal : List ℕ
+
+-- 'by rising node', 'rising', 'rising'
+abbrev pub walkOf : Profile → Node → Walk
+walkOf p f = record {
+  own = rising (p .n) (isOwn (p .a) f);
+  diagonal = rising (p .n) (isDiagonal (p .a) f);
+  off-diagonal = rising (p .n) (isOffDiagonal (p .a) f);
+}
+
+-- Step 2: '.. rising, until k places are listed in this step or the groups run out'.
+abbrev pub stepTwo : ℕ → Walk → List ℕ
+stepTwo k w = take k (w .diagonal)
+
+-- Step 3: 'if step 2 gave fewer than k: .. until steps 2 and 3 have given k nodes'.
+abbrev pub stepThree : ℕ → Walk → List ℕ
+stepThree k w = take (k - length (stepTwo k w)) (w .off-diagonal)
+
+-- 'The plan lists, in this order': row c at the nodes of step 1, row c at those of step 2, two places at those of step 3.
+unfoldable pub planOver : ℕ → ℕ → Node → Walk → List Place
+planOver A k f w = map (rowAt A f) (w .own) ++ (map (rowAt A f) (stepTwo k w) ++ pairsAt A f (stepThree k w))
+
+unfoldable pub planned : Profile → Node → List Place
+planned p f = planOver (p .a) (p .k) f (walkOf p f)
+
+-- 'The number of places is A-1 + k + max(0, k-(G-1))', where G = n div A.
+abbrev pub priceOf : ℕ → ℕ → ℕ → ℕ
+priceOf n k A = (A - 1) + k + (k - (n / A - 1))
+
+-- 'A plan is written as two bytes a place'; 'A place is written node first, then row'.
+unfoldable pub planBytes : List Place → List ℕ
+planBytes [] = []
+planBytes (q ∷ qs) = q .node .0 ∷ q .row .0 ∷ planBytes qs
+
+-- The refusals of planning: 1, 2, 3, then 4 for 'lost node not below n', then 5 for a buffer too short.
+unfoldable pub planTests : Numbers → ℕ → List ℕ → List Test
+planTests p f x =
+    profileTests p
+    ++ (record { refusal = OutOfRange; holds = not (ltb f (p .n)) }
+    ∷ record {
+      refusal = BufferLength;
+      holds = ltb (length x) (2 * length (planned (profileOf p) (record { 0 = f })));
+    }
+    ∷ [])
+
+-- 'into a lent buffer that may be longer; bytes past the plan stay'; 'with the number of places for a plan'.
+unfoldable pub planOf : Numbers → ℕ → List ℕ → Answer × List ℕ
+planOf p f x =
+    let plan : List Place = planned (profileOf p) (record { 0 = f }) in
+    tried (planTests p f x) (λ r. (Refused r, x)) (Done (length plan), planBytes plan ++ drop (2 * length plan) x)

@@ -1,0 +1,25 @@
+-- `exports::whaupfield_plan` meets its contract: the answer of planning, packed.
+use mathlib.Core.Path.{ap, _∙_}
+use Prim.Native.Nat.{ℕ}
+use borrow.Author.Needs.{needs}
+use Rattle.exports.specs.Packed.{packedWith}
+use Rattle.exports.proofs.Values.{packable, plan-value}
+use Rattle.exports.proofs.whaupfield_plan.Statement.{statement}
+use Rattle.exports.proofs.whaupfield_plan.Tie as tie
+
+plan-requires : tie.Need-plan-requires
+plan-requires c κs = search needs
+
+pack-requires : tie.Need-pack-requires
+pack-requires c κs = packable _ _ _ (c .before .before .plan .ensures) (plan-value _ _ _)
+
+same-length : tie.Need-same-length
+same-length c = search needs
+
+returns : tie.Need-returns
+returns c =
+    let e = c .before .before .before in
+    ap (λ (n : ℕ). (n, e .plan .last .1 .1 .0)) (c .pack .ensures) ∙ ap packedWith (e .plan .ensures)
+
+pub whaupfield-plan-spec : {M : Type 1} → statement M
+whaupfield-plan-spec = tie.close (tie.spec plan-requires pack-requires same-length returns)

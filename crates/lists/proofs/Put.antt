@@ -1,0 +1,57 @@
+-- The laws of `put` and `Wrote`: one entry, two writes in a row, nothing written.
+use mathlib.Core.Path.{_≡_, refl, sym, ap, subst, _∙_}
+use mathlib.Core.List.{List, [], _∷_, _++_, append-assoc}
+use Prim.Native.Nat.{ℕ, _+_, _≤_, _<_}
+use native.Mathlib.Nat.{add-zero}
+use native.Mathlib.Numerals.{add-one}
+use native.Mathlib.Omega.{arith}
+use lib.ListN.{length, set, take, drop, length-append, take-append-drop}
+use lib.Seq.{set-split, take-at, drop-at, drop-drop, length-take-le}
+use Rattle.lists.specs.Put.{put, Wrote}
+
+pub set-put : (d : List ℕ) (i b : ℕ) → i < length d → set d i b ≡ put d i (b ∷ [])
+unfolding put
+set-put d i b h = rw (set-split d i b h, add-one)
+
+pub put-none : (d : List ℕ) (at : ℕ) → put d at [] ≡ d
+unfolding put
+put-none d at = rw (add-zero, take-append-drop)
+
+module _ (d : List ℕ) (at : ℕ) (h : at ≤ length d) where
+  front-length : (u : List ℕ) → length (take at d ++ u) ≡ at + length u
+  front-length u = simp (length-append, length-take-le at d h)
+
+  pub put-put : (u v : List ℕ) → put (put d at u) (at + length u) v ≡ put d at (u ++ v)
+  unfolding put
+  put-put u v =
+      let p : List ℕ = take at d ++ u in
+      let q : List ℕ = drop (at + length u) d in
+      let n : ℕ = at + length u in
+      let e : take at d ++ (u ++ q) ≡ p ++ q = sym (append-assoc (take at d) u q) in
+      let t : take n (take at d ++ (u ++ q)) ≡ p = ap (take n) e ∙ take-at p q n (front-length u) in
+      let r : drop n (take at d ++ (u ++ q)) ≡ q = ap (drop n) e ∙ drop-at p q n (front-length u) in
+      let s : drop (n + length v) (take at d ++ (u ++ q)) ≡ drop (n + length v) d =
+      sym (drop-drop (length v) n (take at d ++ (u ++ q))) ∙ ap (drop (length v)) r ∙ drop-drop (length v) n d in
+      let l : at + length (u ++ v) ≡ n + length v = simp length-append (omega arith) in
+      rw (t, s, l) (simp append-assoc)
+
+-- one entry stored
+pub wrote-one : (d : List ℕ) (at b : ℕ) → at < length d → Wrote d at (b ∷ []) (at + 1) (set d at b)
+wrote-one d at b h = record { ends = refl; holds = set-put d at b h }
+
+pub wrote-none : (d : List ℕ) (at : ℕ) → Wrote d at [] at d
+wrote-none d at = record { ends = sym (add-zero at); holds = sym (put-none d at) }
+
+-- two writes in a row, as the calls' contracts have them
+pub wrote-then : {d e f u v : List ℕ} {at m n : ℕ} → at ≤ length d → Wrote d at u m e → Wrote e m v n f
+    → Wrote d at (u ++ v) n f
+wrote-then {d} {e} {f} {u} {v} {at} {m} {n} h p q = record {
+  ends = q .ends ∙ ap (λ (k : ℕ). k + length v) (p .ends) ∙ simp length-append (omega arith);
+  holds =
+      q .holds ∙ ap (λ (l : List ℕ). put l m v) (p .holds) ∙ ap (λ (k : ℕ). put (put d at u) k v) (p .ends)
+      ∙ put-put d at h u v;
+}
+
+-- another name for what was written
+pub wrote-same : {d e u v : List ℕ} {at n : ℕ} → u ≡ v → Wrote d at u n e → Wrote d at v n e
+wrote-same {d} {e} {u} {v} {at} {n} p w = subst (λ (l : List ℕ). Wrote d at l n e) p w

@@ -1,0 +1,135 @@
+-- The nodes that the three steps list are those of the plan.
+use mathlib.Core.Path.{_≡_, refl, sym, ap, ap₂, _∙_}
+use mathlib.Core.Bool.{Bool, true, false, _&&_, not, false≢true}
+use mathlib.Core.List.{List, [], _∷_, _++_, map, append-assoc}
+use Prim.Native.Nat.{ℕ, zero, suc, _+_, _-_, _/_, _%_, _≤_, _<_, zero-le}
+use native.Mathlib.Nat.{zero-add, sub-zero, mul-sub}
+use native.Mathlib.Omega.{arith}
+use lib.Dec.{eqb}
+use lib.ListN.{length, take, length-append}
+use lib.Seq.{take-append-le, take-append-add}
+use Rattle.lists.specs.Listed.{rising}
+use Rattle.lists.specs.Put.{put, Wrote}
+use Rattle.lists.proofs.Put.{wrote-then}
+use Rattle.lists.specs.Each.{Each}
+use Rattle.lists.proofs.Each.{each-append, each-take, each-map}
+use Rattle.lists.proofs.Rising.{rising-each}
+use Rattle.document.specs.declared.Profile.{Profile}
+use Rattle.document.specs.declared.Node.{Node}
+use Rattle.document.specs.Profile.{Accepted}
+use Rattle.document.specs.Plan.{
+  isOwn,
+  isDiagonal,
+  isOffDiagonal,
+  rowAt,
+  pairsAt,
+  walkOf,
+  stepTwo,
+  stepThree,
+  planOver,
+  planned,
+}
+use Rattle.document.proofs.Price.{diagonal-count, off-diagonal-count, nodes-enough}
+use Rattle.plan.specs.Steps.{placesOf}
+use Rattle.plan.proofs.Places.{places-append, singles, pairs}
+
+-- the first k entries of two lists in a row
+take-both : (k : ℕ) (xs ys : List ℕ) → take k (xs ++ ys) ≡ take k xs ++ take (k - length (take k xs)) ys
+take-both zero xs ys = refl
+take-both (suc k) [] ys = rw sub-zero
+take-both (suc k) (x ∷ xs) ys =
+    let m : ℕ = length (take k xs) in
+    let e : suc k - suc m ≡ k - m = omega arith in
+    rw (e, take-both k xs ys)
+
+-- a node in f's group, or at its local column, is not off the diagonal: by the tests of its group and of its column
+own-single : (group column : Bool) → group && not column ≡ true → not group && not column ≡ false
+own-single true column e = refl
+own-single false column e = absurd (false≢true e)
+
+diagonal-single : (group column : Bool) → not group && column ≡ true → not group && not column ≡ false
+diagonal-single true column e = refl
+diagonal-single false true e = refl
+diagonal-single false false e = absurd (false≢true e)
+
+module _ (p : Profile) (acc : Accepted p) (f : Node) (h : f .0 < p .n) where
+  open Profile p using (n, k, a as A)
+
+  abbrev own : List ℕ
+  own = rising n (isOwn A f)
+
+  abbrev diagonal : List ℕ
+  diagonal = rising n (isDiagonal A f)
+
+  abbrev off : List ℕ
+  off = rising n (isOffDiagonal A f)
+
+  -- the nodes of steps 2 and 3
+  abbrev second : List ℕ
+  second = stepTwo k (walkOf p f)
+
+  abbrev third : List ℕ
+  third = stepThree k (walkOf p f)
+
+  -- the nodes of the plan
+  abbrev pub planNodes : List ℕ
+  planNodes = own ++ (second ++ third)
+
+  -- steps 2 and 3 have k nodes to go over
+  enough : k ≤ length (diagonal ++ off)
+  enough =
+      rw (length-append, diagonal-count p acc f h, off-diagonal-count p acc f h)
+      (omega (arith, mul-sub (n / A - 1) A 1, nodes-enough p acc f h))
+
+  front-nodes : (rest : List ℕ) → take (length own + k) (((own ++ diagonal) ++ off) ++ rest) ≡ planNodes
+  front-nodes rest =
+      ap (take (length own + k)) (simp append-assoc)
+      ∙ take-append-add own (diagonal ++ (off ++ rest)) k
+      ∙ ap (λ (l : List ℕ). own ++ l)
+      (ap (take k) (sym (append-assoc diagonal off rest)) ∙ take-append-le k (diagonal ++ off) rest enough
+      ∙ take-both k diagonal off)
+
+  -- where the three steps write their nodes one after the other
+  pub nodes-written : {d d₁ d₂ d₃ : List ℕ} {m₁ m₂ m₃ : ℕ}
+      → Wrote d 0 own m₁ d₁ → Wrote d₁ m₁ diagonal m₂ d₂ → Wrote d₂ m₂ off m₃ d₃
+      → take (m₁ + k) d₃ ≡ planNodes
+  unfolding put
+  nodes-written u v w =
+      ap₂ (λ (m : ℕ) (l : List ℕ). take (m + k) l) (u .ends ∙ zero-add (length own))
+      (wrote-then zero-le (wrote-then zero-le u v) w .holds)
+      ∙ front-nodes _
+
+  pub nodes-below : Each (λ j. j < n) planNodes
+  nodes-below =
+      each-append (below (isOwn A f))
+      (each-append (each-take k (below (isDiagonal A f)))
+      (each-take (k - length second) (below (isOffDiagonal A f))))
+    where
+      below : (P : ℕ → Bool) → Each (λ j. j < n) (rising n P)
+      below P = each-map (λ j r. r .1) (rising-each P n)
+
+  abbrev group : ℕ → Bool
+  group j = eqb (j / A) (f .0 / A)
+
+  abbrev column : ℕ → Bool
+  column j = eqb (j % A) (f .0 % A)
+
+  own-places : placesOf A f own ≡ map (rowAt A f) own
+  unfolding isOwn isOffDiagonal
+  own-places =
+      singles A f (each-map (λ j r. own-single (group j) (column j) (r .0)) (rising-each (isOwn A f) n))
+
+  diagonal-places : placesOf A f second ≡ map (rowAt A f) second
+  unfolding isDiagonal isOffDiagonal
+  diagonal-places =
+      singles A f (each-take k
+      (each-map (λ j r. diagonal-single (group j) (column j) (r .0)) (rising-each (isDiagonal A f) n)))
+
+  off-places : placesOf A f third ≡ pairsAt A f third
+  off-places = pairs A f (each-take (k - length second) (each-map (λ j r. r .0) (rising-each (isOffDiagonal A f) n)))
+
+  pub plan-places : placesOf A f planNodes ≡ planned p f
+  unfolding planned planOver
+  plan-places =
+      places-append A f own (second ++ third)
+      ∙ ap₂ _++_ own-places (places-append A f second third ∙ ap₂ _++_ diagonal-places off-places)

@@ -1,0 +1,87 @@
+-- `plan::list_step` meets its contract. The invariant: the nodes below j that the step goes over are written.
+use mathlib.Core.Path.{_≡_, refl, ap, _∙_}
+use mathlib.Core.Bool.{Bool, cond}
+use mathlib.Core.List.{[], _∷_, _++_}
+use Prim.Native.Nat.{ℕ, _+_, _-_, _≤_, zero-le}
+use native.Mathlib.Numerals.{add-one}
+use native.Mathlib.Omega.{arith}
+use borrow.Author.Needs.{needs}
+use lib.ListN.{length}
+use Rattle.lists.specs.Listed.{rising}
+use Rattle.lists.specs.Put.{Wrote}
+use Rattle.lists.proofs.Put.{wrote-none, wrote-then, wrote-same}
+use Rattle.lists.proofs.Rising.{rising-length}
+use Rattle.plan.specs.Steps.{inStep}
+use Rattle.plan.proofs.list_step.Statement.{statement}
+use Rattle.plan.proofs.list_step.Tie as tie
+
+abbrev Inv-loop : tie.InvT-loop
+Inv-loop out₀ at p f step n next₀ j₀ out next j =
+    (j ≤ p .n) × (length out ≡ length out₀)
+    × Wrote out₀ at (rising j (inStep step (p .a) f)) next out
+
+abbrev μ-loop : tie.MeasureT-loop
+μ-loop out₀ at p f step n next₀ j₀ out next j = p .n - j
+
+loop-holds : tie.Need-loop-holds Inv-loop μ-loop
+unfolding rising
+loop-holds c = (zero-le, refl, wrote-none _ _)
+
+in-step-requires : tie.Need-in-step-requires Inv-loop μ-loop
+in-step-requires c κs = search needs
+
+list-node-requires : tie.Need-list-node-requires Inv-loop μ-loop
+list-node-requires c κs =
+    let s = c .before .before .before .before .before in
+    let l = c .before .before .before .loop in
+    let few = rising-length (inStep (s .args .step) (s .args .p .a) (s .args .f)) (l .j) in
+    (omega (arith, s .pre .1, l .inv .1, l .inv .2 .ends, few), omega (arith, s .pre .0 .shape .few-nodes))
+
+add-j : tie.Need-add-j Inv-loop μ-loop
+add-j c = search needs
+
+loop-less : tie.Need-loop-less Inv-loop μ-loop
+loop-less c = search needs
+
+next-rising : (j : ℕ) (P : ℕ → Bool) → rising j P ++ cond (P j) (j ∷ []) [] ≡ rising (j + 1) P
+unfolding rising
+next-rising j P = rw add-one
+
+loop-again : tie.Need-loop-again Inv-loop μ-loop
+loop-again c =
+    let w = c .before .before in
+    let l = w .before .before .before .before .loop in
+    let s = w .before .before .before .before .before .before in
+    let P = inStep (s .args .step) (s .args .p .a) (s .args .f) in (
+      omega arith,
+      w .list-node .kept .0 ∙ l .inv .1,
+      wrote-same
+          (ap (λ (b : Bool). rising (l .j) P ++ cond b (l .j ∷ []) []) (w .before .before .in-step .ensures)
+          ∙ next-rising (l .j) P)
+          (wrote-then (omega (arith, s .pre .1)) (l .inv .2) (w .list-node .ensures)),
+    )
+
+same-length : tie.Need-same-length Inv-loop μ-loop
+same-length c = search needs
+
+returns : tie.Need-returns Inv-loop μ-loop
+returns c =
+    let l = c .before .loop in
+    let s = c .before .before .before in
+    let P = inStep (s .args .step) (s .args .p .a) (s .args .f) in
+    wrote-same (ap (λ (m : ℕ). rising m P) (omega arith)) (l .inv .2)
+
+pub list-step-spec : {M : Type 1} → statement M
+list-step-spec =
+    tie.close
+    (tie.spec
+    Inv-loop
+    μ-loop
+    loop-holds
+    in-step-requires
+    list-node-requires
+    add-j
+    loop-less
+    loop-again
+    same-length
+    returns)

@@ -1,0 +1,157 @@
+// The plan: the places that are read to rebuild a lost node.
+ghost use mathlib.Core.Path.{_≡_};
+ghost use mathlib.Core.Bool.{cond};
+ghost use mathlib.Core.List.{[], _∷_};
+ghost use Prim.Native.Nat.{ℕ, _+_, _<_, _≤_};
+ghost use lib.ListN.{length, getD};
+ghost use Rattle.lists.specs.Listed.{rising};
+ghost use Rattle.lists.specs.Put.{Wrote};
+ghost use Rattle.document.specs.Profile.{Accepted};
+ghost use Rattle.document.specs.Plan.{planned, priceOf, planBytes, planOf};
+ghost use Rattle.plan.specs.Steps.{inStep, placesAt, placesOf};
+use document::Answer;
+use document::Checked;
+use document::Node;
+use document::Numbers;
+use document::Place;
+use document::Profile;
+use document::Refusal;
+use document::Row;
+
+// The three steps of document 01, by the nodes that they go over: the others of the lost node's group; those of other
+// groups at its local column; those of other groups at other local columns.
+pub enum Step {
+    Own,
+    Diagonal,
+    OffDiagonal,
+}
+
+// Whether the step goes over node j.
+fn in_step(step: Step, p: Profile, f: Node, j: usize) -> bool
+    requires { ⌜ Accepted p ⌝ }
+    ensures { λ r. ⌜ r ≡ inStep step (p .a) f j ⌝ }
+{
+    let group = j / p.a == f.0 / p.a;
+    let column = j % p.a == f.0 % p.a;
+    match step {
+        Step::Own => group && !column,
+        Step::Diagonal => !group && column,
+        Step::OffDiagonal => !group && !column,
+    }
+}
+
+// Writes the node's number if it is wanted, and returns the position after it.
+fn list_node(out: &mut [u8], at: usize, j: usize, wanted: bool) -> usize
+    requires { ⌜ (at < length (now out)) × (j < 256) ⌝ }
+    ensures { λ r. ⌜ Wrote (now (out .entry)) at (cond wanted (j ∷ []) []) r (now (out .exit)) ⌝ }
+{
+    if wanted {
+        out[at] = j as u8;
+        return at + 1;
+    }
+    at
+}
+
+// Writes the numbers of the nodes that the step goes over.
+fn list_step(out: &mut [u8], at: usize, p: Profile, f: Node, step: Step) -> usize
+    requires { ⌜ Accepted p × (at + p .n ≤ length (now out)) ⌝ }
+    ensures { λ r. ⌜ Wrote (now (out .entry)) at (rising (p .n) (inStep step (p .a) f)) r (now (out .exit)) ⌝ }
+{
+    let n = p.n;
+    let mut next = at;
+    let mut j: usize = 0;
+    while j < n {
+        let wanted = in_step(step, p, f, j);
+        next = list_node(out, next, j, wanted);
+        j += 1;
+    }
+    next
+}
+
+// Writes a place as two bytes.
+fn put_place(out: &mut [u8], at: usize, q: Place) -> usize
+    requires { ⌜ (at + 2 ≤ length (now out)) × (q .node .0 < 256) × (q .row .0 < 256) ⌝ }
+    ensures { λ r. ⌜ Wrote (now (out .entry)) at (planBytes (q ∷ [])) r (now (out .exit)) ⌝ }
+{
+    out[at] = q.node.0 as u8;
+    out[at + 1] = q.row.0 as u8;
+    at + 2
+}
+
+// Writes the places that are read at node j.
+fn put_node(out: &mut [u8], at: usize, p: Profile, f: Node, j: usize) -> usize
+    requires { ⌜ Accepted p × (j < p .n) × (at + length (planBytes (placesAt (p .a) f j)) ≤ length (now out)) ⌝ }
+    ensures { λ r. ⌜ Wrote (now (out .entry)) at (planBytes (placesAt (p .a) f j)) r (now (out .exit)) ⌝ }
+{
+    let q = Place {
+        node: Node(j),
+        row: Row(f.0 % p.a),
+    };
+    let next = put_place(out, at, q);
+    if in_step(Step::OffDiagonal, p, f, j) {
+        return put_place(out, next, p.partner(q));
+    }
+    next
+}
+
+// Writes the places that are read at each of the nodes.
+fn put_nodes(out: &mut [u8], p: Profile, f: Node, nodes: &[u8]) -> usize
+    requires { ⌜ Accepted p × ((i : ℕ) → i < length (now nodes) → getD (now nodes) i 0 < p .n)
+        × (length (planBytes (placesOf (p .a) f (now nodes))) ≤ length (now out)) ⌝ }
+    ensures { λ r. ⌜ Wrote (now (out .entry)) 0 (planBytes (placesOf (p .a) f (now (nodes .entry)))) r (now (out .exit)) ⌝ }
+{
+    let mut at: usize = 0;
+    let mut i: usize = 0;
+    while i < nodes.len() {
+        at = put_node(out, at, p, f, nodes[i] as usize);
+        i += 1;
+    }
+    at
+}
+
+// Writes the planned places, two bytes each, and returns the number of bytes.
+pub fn put_plan(out: &mut [u8], p: Profile, f: Node) -> usize
+    requires { ⌜ Accepted p × (f .0 < p .n) × (length (planBytes (planned p f)) ≤ length (now out)) ⌝ }
+    ensures { λ r. ⌜ Wrote (now (out .entry)) 0 (planBytes (planned p f)) r (now (out .exit)) ⌝ }
+{
+    let mut nodes = [0u8; 72];
+    let own = list_step(&mut nodes, 0, p, f, Step::Own);
+    let diagonal = list_step(&mut nodes, own, p, f, Step::Diagonal);
+    list_step(&mut nodes, diagonal, p, f, Step::OffDiagonal);
+    let end = own + p.k;
+    put_nodes(out, p, f, &nodes[..end])
+}
+
+// The number of planned places: the same for every lost node.
+pub fn price(p: Profile) -> usize
+    requires { ⌜ Accepted p ⌝ }
+    ensures { λ r. ⌜ r ≡ priceOf (p .n) (p .k) (p .a) ⌝ }
+{
+    let others = p.n / p.a - 1;
+    let singles = p.a - 1 + p.k;
+    if p.k <= others {
+        return singles;
+    }
+    singles + (p.k - others)
+}
+
+// Writes the plan for a lost node, two bytes a place; bytes past it stay. After a refusal all bytes are what they were.
+pub fn plan(p: Numbers, lost: usize, places: &mut [u8]) -> Answer
+    ensures { λ r. ⌜ (r, now (places .exit)) ≡ planOf p lost (now (places .entry)) ⌝ }
+{
+    let checked = Profile::new(p);
+    match checked {
+        Checked::Rejected(r) => Answer::Refused(r),
+        Checked::Passed(q) => {
+            if lost >= q.n {
+                return Answer::Refused(Refusal::OutOfRange);
+            }
+            let count = price(q);
+            if places.len() < 2 * count {
+                return Answer::Refused(Refusal::BufferLength);
+            }
+            put_plan(places, q, Node(lost));
+            Answer::Done(count)
+        }
+    }
+}
