@@ -35,7 +35,7 @@ use Rattle.document.specs.Places.{place, groupOf, localColumn, partnerOf
 module _ (A : ℕ) (f : Node) where
   -- Whether node j lies in f's group, and at f's local column.
   abbrev sameGroup : ℕ → Bool
-  sameGroup j = eqb (j / A) (groupOf A f)
+  sameGroup j = eqb (groupOf A (record { 0 = j })) (groupOf A f)
 
   abbrev sameColumn : ℕ → Bool
   sameColumn j = eqb (localColumn A (record { 0 = j })) (localColumn A f)
@@ -61,12 +61,13 @@ module _ (A : ℕ) (f : Node) where
   pairsAt [] = []
   pairsAt (j ∷ js) = rowAt j ∷ partnerOf A (rowAt j) ∷ pairsAt js
 
+-- The candidates of the three steps.
 pub record Walk : Type 0 where
   pub own : List ℕ
   pub diagonal : List ℕ
   pub off-diagonal : List ℕ
 
--- 'by rising node', 'rising', 'rising'
+-- Step 1 'by rising node', steps 2 and 3 'rising'.
 abbrev pub walkOf : Profile → Node → Walk
 walkOf p f = record {
   own = rising (p .n) (isOwn (p .a) f);
