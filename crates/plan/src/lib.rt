@@ -98,7 +98,8 @@ fn put_node(out: &mut [u8], at: usize, p: Profile, f: Node, j: usize) -> usize
 fn put_nodes(out: &mut [u8], p: Profile, f: Node, nodes: &[u8]) -> usize
     requires { ⌜ Accepted p × ((i : ℕ) → i < length (now nodes) → getD (now nodes) i 0 < p .n)
         × (length (planBytes (placesOf (p .a) f (now nodes))) ≤ length (now out)) ⌝ }
-    ensures { λ r. ⌜ Wrote (now (out .entry)) 0 (planBytes (placesOf (p .a) f (now (nodes .entry)))) r (now (out .exit)) ⌝ }
+    ensures { λ r. ⌜ Wrote (now (out .entry)) 0
+        (planBytes (placesOf (p .a) f (now (nodes .entry)))) r (now (out .exit)) ⌝ }
 {
     let mut at: usize = 0;
     let mut i: usize = 0;

@@ -51,15 +51,14 @@ fn print_number(n: u8) {
     io::print_decimal(STDOUT_FILENO, n as u64);
 }
 
+// The numbers of a profile, in document 01's order.
+fn numbers(n: usize, k: usize, a: usize, t: usize, s: usize) -> Numbers {
+    Numbers { n, k, a, t, s }
+}
+
 // Encodes data of (4,2,2) with strips of one byte into the array.
 fn encode_small(t: usize, input: &[u8], array: &mut [u8]) {
-    let p = Numbers {
-        n: 4,
-        k: 2,
-        a: 2,
-        t: t,
-        s: 1,
-    };
+    let p = numbers(4, 2, 2, t, 1);
     encode::encode(p, input, array);
 }
 
@@ -82,27 +81,15 @@ fn zero_columns() {
 
 // M5, M6: the plan for a lost node of (4,2,2), as document 01 writes places.
 fn print_plan(lost: usize) {
-    let p = Numbers {
-        n: 4,
-        k: 2,
-        a: 2,
-        t: 2,
-        s: 1,
-    };
+    let p = numbers(4, 2, 2, 2, 1);
     let mut places = [0xFFu8; 8];
     plan::plan(p, lost, &mut places);
     print_places(&places);
 }
 
-// The numbers of places of document 01's examples.
+// The number of places of a plan.
 fn print_price(name: &[u8], n: usize, k: usize, a: usize) {
-    let p = Numbers {
-        n: n,
-        k: k,
-        a: a,
-        t: 2,
-        s: 1,
-    };
+    let p = numbers(n, k, a, 2, 1);
     let mut places = [0u8; 76];
     print(name);
     let answer = plan::plan(p, 0, &mut places);
@@ -134,7 +121,8 @@ fn print_edge(name: &[u8], p: Numbers, size: usize, room: usize)
     print(b"\n");
 }
 
-fn main() {
+// The marked samples.
+fn print_samples() {
     print(b"M1");
     print_number(gf256::mul(128, 128));
     print(b"\nM2");
@@ -150,94 +138,31 @@ fn main() {
     print(b"\nM9");
     zero_columns();
     print(b"\n");
-    print_edge(
-        b"t = 1",
-        Numbers {
-            n: 4,
-            k: 2,
-            a: 2,
-            t: 1,
-            s: 1,
-        },
-        4,
-        8,
-    );
-    print_edge(
-        b"t = 2",
-        Numbers {
-            n: 4,
-            k: 2,
-            a: 2,
-            t: 2,
-            s: 1,
-        },
-        4,
-        8,
-    );
-    print_edge(
-        b"S = 512",
-        Numbers {
-            n: 4,
-            k: 2,
-            a: 2,
-            t: 2,
-            s: 512,
-        },
-        2048,
-        4096,
-    );
-    print_edge(
-        b"S = 513",
-        Numbers {
-            n: 4,
-            k: 2,
-            a: 2,
-            t: 2,
-            s: 513,
-        },
-        2052,
-        4104,
-    );
-    print_edge(
-        b"A = 4 with n-k = 3",
-        Numbers {
-            n: 8,
-            k: 5,
-            a: 4,
-            t: 2,
-            s: 1,
-        },
-        20,
-        32,
-    );
-    print_edge(
-        b"n = 14 with A = 4",
-        Numbers {
-            n: 14,
-            k: 10,
-            a: 4,
-            t: 2,
-            s: 1,
-        },
-        40,
-        56,
-    );
-    print_edge(
-        b"k = 1 with (4,1,2)",
-        Numbers {
-            n: 4,
-            k: 1,
-            a: 2,
-            t: 2,
-            s: 1,
-        },
-        2,
-        8,
-    );
+}
+
+// The edges of a profile.
+fn print_edges() {
+    print_edge(b"t = 1", numbers(4, 2, 2, 1, 1), 4, 8);
+    print_edge(b"t = 2", numbers(4, 2, 2, 2, 1), 4, 8);
+    print_edge(b"S = 512", numbers(4, 2, 2, 2, 512), 2048, 4096);
+    print_edge(b"S = 513", numbers(4, 2, 2, 2, 513), 2052, 4104);
+    print_edge(b"A = 4 with n-k = 3", numbers(8, 5, 4, 2, 1), 20, 32);
+    print_edge(b"n = 14 with A = 4", numbers(14, 10, 4, 2, 1), 40, 56);
+    print_edge(b"k = 1 with (4,1,2)", numbers(4, 1, 2, 2, 1), 2, 8);
+}
+
+// The numbers of places of document 01's examples.
+fn print_prices() {
     print_price(b"(4,2,2)", 4, 2, 2);
     print_price(b"(6,2,2)", 6, 2, 2);
     print_price(b"(9,6,3)", 9, 6, 3);
     print_price(b"(14,10,2)", 14, 10, 2);
     print_price(b"(12,8,4)", 12, 8, 4);
     print_price(b"(24,20,4)", 24, 20, 4);
+}
+
+fn main() {
+    print_samples();
+    print_edges();
+    print_prices();
 }
