@@ -1,12 +1,15 @@
 -- Demand 1: a call that tries its tests in order refuses exactly as the table says; encoding does.
-use mathlib.Core.Path.{_≡_, refl, sym, _∙_}
+use mathlib.Core.Path.{_≡_, refl, sym, ap, ap₂, _∙_}
 use mathlib.Core.Logic.{_⊎_, inl, inr}
 use mathlib.Core.Bool.{Bool, true, false, false≢true}
-use mathlib.Core.List.{List, [], _∷_, _++_}
-use Prim.Native.Nat.{ℕ, _*_, _≤_, _<_}
+use mathlib.Core.List.{List, [], _∷_, _++_, map}
+use Prim.Native.Nat.{ℕ, zero, suc, _*_, _≤_, _<_, suc-le-suc}
+use native.Mathlib.Nat.{zero-lt-suc}
 use native.Mathlib.Decide.{ℕ-discrete, decLt}
 use native.Mathlib.Omega.{arith}
 use lib.ListN.{length}
+use Rattle.lists.specs.Listed.{listed}
+use Rattle.fields.specs.Fields.{twoBytes, opening}
 use Rattle.document.specs.declared.Numbers.{Numbers}
 use Rattle.document.specs.declared.Refusal.{Refusal}
 use Rattle.document.specs.declared.Refusal.the-variants.{
@@ -26,8 +29,22 @@ use Rattle.document.specs.declared.Answer.the-variants.{Done, Refused}
 use Rattle.document.specs.Refusals.{numberOf, indexOf, answerNumber, answerValue, Test, tried, Decides}
 use Rattle.document.specs.Profile.{ShapeAccepted, Accepted, profileTests, profileOf}
 use Rattle.document.specs.Encoding.{encoded, encodeTests, encodeOf}
-use Rattle.document.specs.Plan.{planTests, planOf}
-use Rattle.document.proofs.Decides.{decides-eq, decides-lt, decides-both, decides-not, decides-same}
+use Rattle.document.specs.declared.Profile.{Profile}
+use Rattle.document.specs.declared.Node.{Node}
+use Rattle.document.specs.declared.Recording.{Recording}
+use Rattle.document.specs.Plan.{planned, plannedAt, planTests, planOf}
+use Rattle.document.specs.Bundle.{recordingBytes, profileContent, lostContent, bundleLength, writeTests, writeOf, placeIn, recordingIn, formed, headed, placed, fresh, bundleTests}
+use Rattle.document.specs.Rebuild.{rebuildTests, rebuildOf}
+use Rattle.document.proofs.Decides.{
+  decides-eq,
+  decides-lt,
+  decides-both,
+  decides-not,
+  decides-same,
+  decides-list,
+  decides-all,
+  decides-place,
+}
 use Rattle.document.proofs.Accepts.{decides-shape, decides-constant, decides-strip}
 use Rattle.demands.specs.Refusals.{
   Sentence,
@@ -41,8 +58,15 @@ use Rattle.demands.specs.Refusals.{
   profileSentences,
   encodeSentences,
   planSentences,
+  writeSentences,
+  Formed,
+  Headed,
+  bundleSentences,
+  rebuildSentences,
   Demand1Encode,
   Demand1Plan,
+  Demand1Write,
+  Demand1Rebuild,
 }
 
 -- done is not refused
@@ -80,7 +104,7 @@ first-here h r (here _) = refl
 first-here h r (later n f) = absurd (n h)
 
 -- where the first condition does not hold, it is that of the rest
-first-later : {s : Sentence} {table : List Sentence} → (s .says → ⊥) → (r : Refusal) → FirstOf (s ∷ table) r
+pub first-later : {s : Sentence} {table : List Sentence} → (s .says → ⊥) → (r : Refusal) → FirstOf (s ∷ table) r
     → FirstOf table r
 first-later n r (here h) = absurd (n h)
 first-later n r (later _ f) = f
@@ -98,8 +122,21 @@ inside : (S : ℕ) → (S ≡ 0) ⊎ (512 < S) → (1 ≤ S) × (S ≤ 512) → 
 inside S (inl e) h = omega arith
 inside S (inr l) h = omega arith
 
+-- a function of what a call that tries its tests in order gives
+pub tried-map : {X Y : Type 0} (g : X → Y) (tests : List Test) (refuse : Refusal → X) (x : X)
+    → g (tried tests refuse x) ≡ tried tests (λ r. g (refuse r)) (g x)
+unfolding tried
+tried-map g [] refuse x = refl
+tried-map g (test ∷ tests) refuse x = go (test .holds) (tried-map g tests refuse x)
+  where
+    go : (b : Bool) → g (tried tests refuse x) ≡ tried tests (λ r. g (refuse r)) (g x)
+        → g (tried (record { refusal = test .refusal; holds = b } ∷ tests) refuse x)
+        ≡ tried (record { refusal = test .refusal; holds = b } ∷ tests) (λ r. g (refuse r)) (g x)
+    go true h = refl
+    go false h = h
+
 -- what is decided and not refuted holds
-decided : {P : Type 0} (b : Bool) → Decides b P → ((P → ⊥) → ⊥) → P
+pub decided : {P : Type 0} (b : Bool) → Decides b P → ((P → ⊥) → ⊥) → P
 decided true d n = d .0 refl
 decided false d n = absurd (n (λ h. false≢true (d .1 h)))
 
@@ -195,6 +232,14 @@ module _ {X : Type 0} (before : X) where
       (later (λ m. m (a .shape))
       (later (λ m. m (a .above-one, a .one-byte)) (later (λ m. inside (p .s) m (a .some-bytes, a .short)) f))))
 
+-- Where the profile is accepted, none of the refusals 1, 2 and 3 is the first.
+pub accepted-later : (p : Numbers) → Accepted (profileOf p) → {table : List Sentence} (r : Refusal)
+    → FirstOf (profileSentences p ++ table) r → FirstOf table r
+unfolding profileSentences
+accepted-later p acc r first =
+    first-later (λ m. inside (p .s) m (acc .some-bytes, acc .short)) r
+    (first-later (λ m. m (acc .above-one, acc .one-byte)) r (first-later (λ m. m (acc .shape)) r first))
+
 -- The tests of refusals 1, 2 and 3, before any others, decide their sentences.
 pub profile-decided : (p : Numbers) {tests : List Test} {table : List Sentence} → Decided tests table
     → Decided (profileTests p ++ tests) (profileSentences p ++ table)
@@ -242,3 +287,127 @@ demand-1-plan p f x = record {
     decides =
         profile-decided p
         (line refl (decides-not _ (decides-lt f (p .n))) (line refl (decides-lt (length x) _) none))
+
+-- So does the writing of a bundle.
+pub demand-1-write : (p : Numbers) (f : ℕ) (r : Recording) (x b : List ℕ) → Demand1Write p f r x b
+unfolding writeOf writeTests writeSentences profileSentences numberOf indexOf
+demand-1-write p f r x b = record {
+  numbered = (refl, refl);
+  decided = decides;
+  refuses = tried-exactly b _ _ decides;
+}
+  where
+    decides : Decided (writeTests p f x b) (writeSentences p f x b)
+    decides =
+        profile-decided p
+        (line refl (decides-not _ (decides-lt f (p .n)))
+        (line refl
+        (decides-not _ (decides-both _ _ (decides-eq (length x) (p .n * p .a * p .s)) (decides-eq (length b) _))) none))
+
+-- ---- tables with a line for each strip
+-- two tables in a row
+decided-append : {t₁ t₂ : List Test} {s₁ s₂ : List Sentence} → Decided t₁ s₁ → Decided t₂ s₂
+    → Decided (t₁ ++ t₂) (s₁ ++ s₂)
+decided-append none e = e
+decided-append (line same decides d) e = line same decides (decided-append d e)
+
+decided-listed : (n : ℕ) (T : ℕ → Test) (s : ℕ → Sentence) → ((i : ℕ) → T i .refusal ≡ s i .refusal)
+    → ((i : ℕ) → Decides (T i .holds) (s i .says)) → Decided (listed n T) (listed n s)
+unfolding listed
+decided-listed zero T s same decides = none
+decided-listed (suc n) T s same decides =
+    line (same 0) (decides 0)
+    (decided-listed n (λ i. T (suc i)) (λ i. s (suc i)) (λ i. same (suc i)) (λ i. decides (suc i)))
+
+-- lines none of which holds, before others and at the end
+pub first-past : (n : ℕ) (s : ℕ → Sentence) → ((i : ℕ) → i < n → s i .says → ⊥) → {table : List Sentence} (r : Refusal)
+    → FirstOf (listed n s ++ table) r → FirstOf table r
+unfolding listed
+first-past zero s fails r first = first
+first-past (suc n) s fails r first =
+    first-past n (λ i. s (suc i)) (λ i l. fails (suc i) (suc-le-suc l)) r (first-later (fails 0 (zero-lt-suc n)) r first)
+
+pub first-nowhere : (n : ℕ) (s : ℕ → Sentence) → ((i : ℕ) → i < n → s i .says → ⊥) → (r : Refusal)
+    → FirstOf (listed n s) r → ⊥
+unfolding listed
+first-nowhere zero s fails r first = first-none r first
+first-nowhere (suc n) s fails r first =
+    first-nowhere n (λ i. s (suc i)) (λ i l. fails (suc i) (suc-le-suc l)) r
+    (first-later (fails 0 (zero-lt-suc n)) r first)
+
+map-listed : (n : ℕ) (s : ℕ → Sentence) (g : Sentence → ℕ) → map g (listed n s) ≡ listed n (λ i. g (s i))
+unfolding listed
+map-listed zero s g = refl
+map-listed (suc n) s g = ap (λ (l : List ℕ). g (s 0) ∷ l) (map-listed n (λ i. s (suc i)) g)
+
+map-append : (a b : List Sentence) (g : Sentence → ℕ) → map g (a ++ b) ≡ map g a ++ map g b
+map-append [] b g = refl
+map-append (x ∷ a) b g = ap (λ (l : List ℕ). g x ∷ l) (map-append a b g)
+
+module _ (p : Profile) (f : Node) (r : Recording) (b : List ℕ) where
+  pub decides-formed : Decides (formed p f b) (Formed p f b)
+  unfolding formed opening twoBytes
+  decides-formed =
+      decides-same _
+      (decides-both _ _ (decides-eq (length b) (bundleLength p f))
+      (decides-both _ _ (decides-list _ _)
+      (decides-both _ _ (decides-list _ _) (decides-all (length (planned p f)) _ (λ i. decides-list _ _)))))
+      (λ h. record { total = h .0; field-01 = h .1 .0; field-02 = h .1 .1 .0; fields-03 = h .1 .1 .1 })
+      (λ h. (h .total, (h .field-01, (h .field-02, h .fields-03))))
+
+  decides-headed : Decides (headed p f r b) (Headed p f r b)
+  unfolding headed profileContent lostContent recordingBytes
+  decides-headed =
+      decides-same _ (decides-both _ _ (decides-list _ _) (decides-list _ _))
+      (λ h. record { field-01 = h .0; field-02 = h .1 }) (λ h. (h .field-01, h .field-02))
+
+  -- The tests of a reader decide the lines for a bundle.
+  pub bundle-decided : Decided (bundleTests p f r b) (bundleSentences p f r b)
+  unfolding bundleTests bundleSentences placed fresh
+  bundle-decided =
+      line refl (decides-not _ decides-formed)
+      (line refl (decides-not _ decides-headed)
+      (decided-append
+      (decided-listed (length (planned p f)) _ _ (λ i. refl)
+      (λ i. decides-not _ (decides-place (placeIn p b i) (plannedAt p f i))))
+      (decided-listed (length (planned p f)) _ _ (λ i. refl)
+      (λ i. decides-not _ (decides-list (recordingIn p b i) (recordingBytes r))))))
+
+-- So does a rebuild.
+pub demand-1-rebuild : (p : Numbers) (f : ℕ) (r : Recording) (b y : List ℕ) → Demand1Rebuild p f r b y
+unfolding rebuildOf rebuildTests rebuildSentences bundleSentences profileSentences numberOf indexOf
+demand-1-rebuild p f r b y = record {
+  numbered = (numbers, indices);
+  decided = decides;
+  refuses = tried-exactly y _ _ decides;
+}
+  where
+    lost : Node
+    lost = record { 0 = f }
+
+    strips : ℕ
+    strips = length (planned (profileOf p) lost)
+
+    decides : Decided (rebuildTests p f r b y) (rebuildSentences p f r b y)
+    decides =
+        profile-decided p
+        (line refl (decides-not _ (decides-lt f (p .n)))
+        (line refl (decides-not _ (decides-eq (length y) (p .a * p .s))) (bundle-decided (profileOf p) lost r b)))
+
+    -- the lines of 8 and 9, by what each comes with
+    strip-lines : (g : Sentence → ℕ) (misplaced stale : ℕ → Sentence)
+        → map g (listed strips misplaced ++ listed strips stale)
+        ≡ listed strips (λ i. g (misplaced i)) ++ listed strips (λ i. g (stale i))
+    strip-lines g misplaced stale =
+        map-append (listed strips misplaced) (listed strips stale) g
+        ∙ ap₂ _++_ (map-listed strips misplaced g) (map-listed strips stale g)
+
+    numbers : map (λ s. numberOf (s .refusal)) (rebuildSentences p f r b y)
+        ≡ 1 ∷ 2 ∷ 3 ∷ 4 ∷ 5 ∷ 6 ∷ 7 ∷ (listed strips (λ i. 8) ++ listed strips (λ i. 9))
+    numbers =
+        ap (λ (l : List ℕ). 1 ∷ 2 ∷ 3 ∷ 4 ∷ 5 ∷ 6 ∷ 7 ∷ l) (strip-lines (λ s. numberOf (s .refusal)) _ _)
+
+    indices : map (λ s. indexOf (s .refusal)) (rebuildSentences p f r b y)
+        ≡ 0 ∷ 0 ∷ 0 ∷ 0 ∷ 0 ∷ 0 ∷ 0 ∷ (listed strips (λ i. i) ++ listed strips (λ i. i))
+    indices =
+        ap (λ (l : List ℕ). 0 ∷ 0 ∷ 0 ∷ 0 ∷ 0 ∷ 0 ∷ 0 ∷ l) (strip-lines (λ s. indexOf (s .refusal)) _ _)

@@ -1,3 +1,4 @@
 pub mod Demand1
 pub mod Demand2
+pub mod Strips
 pub mod Demand3

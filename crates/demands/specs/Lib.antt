@@ -1,3 +1,4 @@
 pub mod Refusals
 pub mod Encoding
 pub mod Plan
+pub mod Rebuild

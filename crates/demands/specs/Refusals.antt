@@ -8,26 +8,61 @@
 -- profileSentences p                  : the lines for a profile's numbers
 -- encodeSentences p d x               : the table for encoding the data d into x
 -- planSentences p f x                 : the table for planning the rebuild of node f into x
--- Numbered table numbers              : the table's lines have these numbers, in this order, and come with 0
+-- writeSentences p f x b              : the table for cutting a bundle from the array x, written into b
+-- Formed p f b                        : the bundle b has the length, the tags and the field lengths that are wanted
+-- Headed p f r b                      : its fields 01 and 02 have the content that is wanted
+-- bundleSentences p f r b             : the lines for a bundle to read, where the profile p, the lost node f and the
+--                                       recording r are wanted
+-- rebuildSentences p f r b y          : the table for rebuilding node f from the bundle b into y
+-- Numbered table numbers indices      : the table's lines have these numbers, and come with these indices
 -- Demand1Encode p d x                 : encoding refuses as its table says, which has document 01's numbers
 -- Demand1Plan p f x                   : so does planning
--- Shown for all p, d, f and x in proofs/Demand1.antt: demand-1-encode, demand-1-plan.
+-- Demand1Write p f r x b              : so does the writing of a bundle
+-- Demand1Rebuild p f r b y            : so does a rebuild
+-- Shown for all numbers and bytes in proofs/Demand1.antt: demand-1-encode, demand-1-plan, demand-1-write,
+-- demand-1-rebuild.
 --
 -- That every entry point answers: it has no `requires`, and each function of the store is proved to end without a fault.
 use mathlib.Core.Path.{_≡_}
-use mathlib.Core.Logic.{_↔_, _⊎_}
+use mathlib.Core.Logic.{_↔_, _≢_, _⊎_}
 use mathlib.Core.List.{List, [], _∷_, _++_, map}
-use Prim.Native.Nat.{ℕ, _*_, _≤_, _<_}
+use Prim.Native.Nat.{ℕ, _+_, _*_, _≤_, _<_}
 use lib.ListN.{length}
+use Rattle.lists.specs.Listed.{listed}
+use Rattle.lists.specs.Put.{slice}
+use Rattle.fields.specs.Fields.{twoBytes, fourBytes, openingLength}
 use Rattle.document.specs.declared.Numbers.{Numbers}
 use Rattle.document.specs.declared.Refusal.{Refusal}
-use Rattle.document.specs.declared.Refusal.the-variants.{Shape, Constant, StripLength, OutOfRange, BufferLength}
+use Rattle.document.specs.declared.Profile.{Profile}
+use Rattle.document.specs.declared.Node.{Node}
+use Rattle.document.specs.declared.Recording.{Recording}
+use Rattle.document.specs.declared.Refusal.the-variants.{
+  Shape,
+  Constant,
+  StripLength,
+  OutOfRange,
+  BufferLength,
+  BundleForm,
+  BundleHead,
+  Misplaced,
+  Stale,
+}
 use Rattle.document.specs.declared.Answer.{Answer}
 use Rattle.document.specs.declared.Answer.the-variants.{Refused}
 use Rattle.document.specs.Refusals.{numberOf, indexOf, Test, Decides}
 use Rattle.document.specs.Profile.{ShapeAccepted, profileOf}
 use Rattle.document.specs.Encoding.{encodeTests, encodeOf}
-use Rattle.document.specs.Plan.{planned, planTests, planOf}
+use Rattle.document.specs.Plan.{planned, plannedAt, planTests, planOf}
+use Rattle.document.specs.Bundle.{
+  recordingBytes,
+  bundleLength,
+  writeTests,
+  writeOf,
+  stripField,
+  placeIn,
+  recordingIn,
+}
+use Rattle.document.specs.Rebuild.{rebuildTests, rebuildOf}
 
 -- One line of the table 'Refusals by number, in the order they are tried', for one call.
 pub record Sentence : Type 1 where
@@ -82,19 +117,82 @@ planSentences p f x =
     }
     ∷ [])
 
+-- 5: 'a lent buffer .. has the wrong length': a stored array has nAS bytes, a bundle its own length.
+unfoldable pub writeSentences : Numbers → ℕ → List ℕ → List ℕ → List Sentence
+writeSentences p f x b =
+    profileSentences p
+    ++ (record { refusal = OutOfRange; says = f < p .n → ⊥ }
+    ∷ record {
+      refusal = BufferLength;
+      says = (length x ≡ p .n * p .a * p .s) × (length b ≡ bundleLength (profileOf p) (record { 0 = f })) → ⊥;
+    }
+    ∷ [])
+
+-- 'bundle's total length, tags or field lengths': a field opens with a one-byte tag and a two-byte length.
+pub record Formed (p : Profile) (f : Node) (b : List ℕ) : Type 0 where
+  -- 'Length: 17 + P(9+S), P the number of places.'
+  pub total : length b ≡ bundleLength p f
+  -- '01, length 6'
+  pub field-01 : slice b 0 openingLength ≡ 1 ∷ 0 ∷ 6 ∷ []
+  -- '02, length 5'
+  pub field-02 : slice b 9 openingLength ≡ 2 ∷ 0 ∷ 5 ∷ []
+  -- '03, length 6+S, once a planned place'
+  pub fields-03 : (i : ℕ) → i < length (planned p f)
+      → slice b (stripField p i) openingLength ≡ 3 ∷ twoBytes (6 + p .s)
+
+-- 'content of field 01 or 02'
+pub record Headed (p : Profile) (f : Node) (r : Recording) (b : List ℕ) : Type 0 where
+  -- 'n, k, A, t, S in two bytes'
+  pub field-01 : slice b 3 6 ≡ p .n ∷ p .k ∷ p .a ∷ p .t ∷ twoBytes (p .s)
+  -- 'lost node, scenario number in four bytes'
+  pub field-02 : slice b 12 5 ≡ f .0 ∷ fourBytes (r .scenario)
+
+-- 6: '.. differ from those of the wanted profile and node'. 7: '.. differs from what is wanted'. 8: 'some strip's place
+-- differs from the plan's', with its index. 9: 'some strip's scenario differs from the wanted one', with its index.
+-- 'The lowest number that applies is the answer, also where a stale strip stands before a misplaced one.'
+unfoldable pub bundleSentences : Profile → Node → Recording → List ℕ → List Sentence
+bundleSentences p f r b =
+    record { refusal = BundleForm; says = Formed p f b → ⊥ }
+    ∷ record { refusal = BundleHead; says = Headed p f r b → ⊥ }
+    ∷ (listed (length (planned p f)) (λ i. record { refusal = Misplaced i; says = placeIn p b i ≢ plannedAt p f i })
+    ++ listed (length (planned p f)) (λ i. record { refusal = Stale i; says = recordingIn p b i ≢ recordingBytes r }))
+
+-- 5: a column has AS bytes; 'other than the bundle to read'.
+unfoldable pub rebuildSentences : Numbers → ℕ → Recording → List ℕ → List ℕ → List Sentence
+rebuildSentences p f r b y =
+    profileSentences p
+    ++ (record { refusal = OutOfRange; says = f < p .n → ⊥ }
+    ∷ record { refusal = BufferLength; says = length y ≢ p .a * p .s }
+    ∷ bundleSentences (profileOf p) (record { 0 = f }) r b)
+
 -- 'by number': the lines of a table have these numbers; '8 and 9 come with the index .., the others with 0'.
-abbrev pub Numbered : List Sentence → List ℕ → Type 0
-Numbered table numbers =
-    (map (λ s. numberOf (s .refusal)) table ≡ numbers) × (map (λ s. indexOf (s .refusal)) table ≡ map (λ m. 0) numbers)
+abbrev pub Numbered : List Sentence → List ℕ → List ℕ → Type 0
+Numbered table numbers indices =
+    (map (λ s. numberOf (s .refusal)) table ≡ numbers) × (map (λ s. indexOf (s .refusal)) table ≡ indices)
 
 -- Demand 1 for encoding, whatever the numbers and the bytes.
 pub record Demand1Encode (p : Numbers) (d x : List ℕ) : Type 1 where
-  pub numbered : Numbered (encodeSentences p d x) (1 ∷ 2 ∷ 3 ∷ 5 ∷ [])
+  pub numbered : Numbered (encodeSentences p d x) (1 ∷ 2 ∷ 3 ∷ 5 ∷ []) (0 ∷ 0 ∷ 0 ∷ 0 ∷ [])
   pub decided : Decided (encodeTests p d x) (encodeSentences p d x)
   pub refuses : RefusesExactly (encodeSentences p d x) x (encodeOf p d x)
 
 -- Demand 1 for planning.
 pub record Demand1Plan (p : Numbers) (f : ℕ) (x : List ℕ) : Type 1 where
-  pub numbered : Numbered (planSentences p f x) (1 ∷ 2 ∷ 3 ∷ 4 ∷ 5 ∷ [])
+  pub numbered : Numbered (planSentences p f x) (1 ∷ 2 ∷ 3 ∷ 4 ∷ 5 ∷ []) (0 ∷ 0 ∷ 0 ∷ 0 ∷ 0 ∷ [])
   pub decided : Decided (planTests p f x) (planSentences p f x)
   pub refuses : RefusesExactly (planSentences p f x) x (planOf p f x)
+
+-- Demand 1 for the writing of a bundle.
+pub record Demand1Write (p : Numbers) (f : ℕ) (r : Recording) (x b : List ℕ) : Type 1 where
+  pub numbered : Numbered (writeSentences p f x b) (1 ∷ 2 ∷ 3 ∷ 4 ∷ 5 ∷ []) (0 ∷ 0 ∷ 0 ∷ 0 ∷ 0 ∷ [])
+  pub decided : Decided (writeTests p f x b) (writeSentences p f x b)
+  pub refuses : RefusesExactly (writeSentences p f x b) b (writeOf p f r x b)
+
+-- Demand 1 for a rebuild: one line for each strip under 8, from index 0, and then one for each strip under 9.
+pub record Demand1Rebuild (p : Numbers) (f : ℕ) (r : Recording) (b y : List ℕ) : Type 1 where
+  pub numbered : let P : ℕ = length (planned (profileOf p) (record { 0 = f })) in
+      Numbered (rebuildSentences p f r b y)
+      (1 ∷ 2 ∷ 3 ∷ 4 ∷ 5 ∷ 6 ∷ 7 ∷ (listed P (λ i. 8) ++ listed P (λ i. 9)))
+      (0 ∷ 0 ∷ 0 ∷ 0 ∷ 0 ∷ 0 ∷ 0 ∷ (listed P (λ i. i) ++ listed P (λ i. i)))
+  pub decided : Decided (rebuildTests p f r b y) (rebuildSentences p f r b y)
+  pub refuses : RefusesExactly (rebuildSentences p f r b y) y (rebuildOf p f r b y)

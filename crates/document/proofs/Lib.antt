@@ -4,5 +4,9 @@ pub mod Accepts
 pub mod Bounds
 pub mod Arrays
 pub mod Rows
+pub mod Walks
 pub mod Price
 pub mod Planned
+pub mod Cut
+pub mod Columns
+pub mod Chosen

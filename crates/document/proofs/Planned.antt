@@ -1,8 +1,7 @@
--- A plan lists no place twice, and none of the lost node: over document 01's walk, and over any whose steps go over the
--- right nodes, none of them twice.
+-- A plan lists no place twice, and none of the lost node, over any walk whose steps go over the right nodes, none of
+-- them twice.
 use mathlib.Core.Path.{_≡_, refl, sym, ap, subst, _∙_}
 use mathlib.Core.Logic.{_≢_}
-use mathlib.Core.Bool.{true}
 use mathlib.Core.List.{List, _++_, map}
 use Prim.Native.Nat.{ℕ, _-_, _/_, _%_, _<_}
 use native.Mathlib.Nat.{div-add-mod', mod-lt}
@@ -19,10 +18,9 @@ use Rattle.lists.proofs.Each.{
   distinct-take,
   distinct-image,
 }
-use Rattle.lists.proofs.Rising.{rising-each, rising-distinct}
-use Rattle.document.specs.declared.Profile.{Profile}
 use Rattle.document.specs.declared.Node.{Node}
 use Rattle.document.specs.declared.Place.{Place}
+use Rattle.document.specs.Refusals.{Decides}
 use Rattle.document.specs.Places.{partnerOf}
 use Rattle.document.specs.Plan.{
   isOwn,
@@ -31,34 +29,12 @@ use Rattle.document.specs.Plan.{
   rowAt,
   pairsAt,
   Walk,
-  walkOf,
   stepTwo,
   stepThree,
   planOver,
 }
 use Rattle.document.proofs.Decides.{decides-eq, decides-both, decides-not}
-
--- any walk whose steps go over the right nodes, none of them twice
-pub record Sound (A : ℕ) (f : Node) (w : Walk) : Type 0 where
-  pub own : Each (λ j. isOwn A f j ≡ true) (w .own)
-  pub own-once : Distinct (w .own)
-  pub diagonal : Each (λ j. isDiagonal A f j ≡ true) (w .diagonal)
-  pub diagonal-once : Distinct (w .diagonal)
-  pub off-diagonal : Each (λ j. isOffDiagonal A f j ≡ true) (w .off-diagonal)
-  pub off-diagonal-once : Distinct (w .off-diagonal)
-
-module _ (p : Profile) (f : Node) where
-  open Profile p using (n, a as A)
-
-  pub walk-sound : Sound A f (walkOf p f)
-  walk-sound = record {
-    own = each-map (λ j r. r .0) (rising-each (isOwn A f) n);
-    own-once = rising-distinct (isOwn A f) n;
-    diagonal = each-map (λ j r. r .0) (rising-each (isDiagonal A f) n);
-    diagonal-once = rising-distinct (isDiagonal A f) n;
-    off-diagonal = each-map (λ j r. r .0) (rising-each (isOffDiagonal A f) n);
-    off-diagonal-once = rising-distinct (isOffDiagonal A f) n;
-  }
+use Rattle.document.proofs.Walks.{Sound}
 
 module _ (A : ℕ) (A>0 : 0 < A) (k : ℕ) (f : Node) where
   -- f's group and local column
@@ -72,20 +48,20 @@ module _ (A : ℕ) (A>0 : 0 < A) (k : ℕ) (f : Node) where
   c<A = mod-lt (f .0) A>0
 
   -- what the tests of the three steps say
-  own-is : (j : ℕ) → isOwn A f j ≡ true → (j / A ≡ g) × (j % A ≢ c)
+  pub own-is : (j : ℕ) → Decides (isOwn A f j) ((j / A ≡ g) × (j % A ≢ c))
   unfolding isOwn
-  own-is j = decides-both _ _ (decides-eq (j / A) g) (decides-not _ (decides-eq (j % A) c)) .0
+  own-is j = decides-both _ _ (decides-eq (j / A) g) (decides-not _ (decides-eq (j % A) c))
 
-  diagonal-is : (j : ℕ) → isDiagonal A f j ≡ true → (j / A ≢ g) × (j % A ≡ c)
+  diagonal-is : (j : ℕ) → Decides (isDiagonal A f j) ((j / A ≢ g) × (j % A ≡ c))
   unfolding isDiagonal
-  diagonal-is j = decides-both _ _ (decides-not _ (decides-eq (j / A) g)) (decides-eq (j % A) c) .0
+  diagonal-is j = decides-both _ _ (decides-not _ (decides-eq (j / A) g)) (decides-eq (j % A) c)
 
-  off-is : (j : ℕ) → isOffDiagonal A f j ≡ true → (j / A ≢ g) × (j % A ≢ c)
+  off-is : (j : ℕ) → Decides (isOffDiagonal A f j) ((j / A ≢ g) × (j % A ≢ c))
   unfolding isOffDiagonal
-  off-is j = decides-both _ _ (decides-not _ (decides-eq (j / A) g)) (decides-not _ (decides-eq (j % A) c)) .0
+  off-is j = decides-both _ _ (decides-not _ (decides-eq (j / A) g)) (decides-not _ (decides-eq (j % A) c))
 
   -- what holds of both places that each node stands for in step 3
-  each-pairs : {R : ℕ → Type 0} {S : Place → Type 0}
+  pub each-pairs : {R : ℕ → Type 0} {S : Place → Type 0}
       → ((j : ℕ) → R j → S (rowAt A f j) × S (partnerOf A (rowAt A f j))) → {js : List ℕ} → Each R js
       → Each S (pairsAt A f js)
   unfolding pairsAt
@@ -121,15 +97,15 @@ module _ (A : ℕ) (A>0 : 0 < A) (k : ℕ) (f : Node) where
       (new (each-pairs (λ y r. ((λ e. row-ne-partner y j o (sym e)), λ e. r .1 (partner-injective j y e))) others)
       (pairs-distinct os ds))
 
-  module _ (w : Walk) (sound : Sound A f w) where
-    own-nodes : Each (λ j. (j / A ≡ g) × (j % A ≢ c)) (w .own)
-    own-nodes = each-map own-is (sound .own)
+  module _ {n : ℕ} (w : Walk) (sound : Sound n A f w) where
+    pub own-nodes : Each (λ j. (j / A ≡ g) × (j % A ≢ c)) (w .own)
+    own-nodes = each-map (λ j r. own-is j .0 (r .0)) (sound .own)
 
-    second-nodes : Each (λ j. (j / A ≢ g) × (j % A ≡ c)) (stepTwo k w)
-    second-nodes = each-take k (each-map diagonal-is (sound .diagonal))
+    pub second-nodes : Each (λ j. (j / A ≢ g) × (j % A ≡ c)) (stepTwo k w)
+    second-nodes = each-take k (each-map (λ j r. diagonal-is j .0 (r .0)) (sound .diagonal))
 
-    third-nodes : Each (λ j. (j / A ≢ g) × (j % A ≢ c)) (stepThree k w)
-    third-nodes = each-take (k - length (stepTwo k w)) (each-map off-is (sound .off-diagonal))
+    pub third-nodes : Each (λ j. (j / A ≢ g) × (j % A ≢ c)) (stepThree k w)
+    third-nodes = each-take (k - length (stepTwo k w)) (each-map (λ j r. off-is j .0 (r .0)) (sound .off-diagonal))
 
     -- steps 2 and 3 stay outside f's group
     outside : Each (λ q. q .node .0 / A ≢ g) (map (rowAt A f) (stepTwo k w) ++ pairsAt A f (stepThree k w))

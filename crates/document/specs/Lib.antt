@@ -4,3 +4,6 @@ pub mod Places
 pub mod Bytes
 pub mod Encoding
 pub mod Plan
+pub mod Bundle
+pub mod Rebuild
+pub mod Program

@@ -4,8 +4,11 @@
 -- groupOf A j     : the group of node j
 -- localColumn A j : its local column there
 -- partnerOf A q   : the place coupled with q
+-- samePlace q r   : the test whether two places are one
 -- Within p q      : the place q has a node and a row of the profile p
+use mathlib.Core.Bool.{Bool, _&&_}
 use Prim.Native.Nat.{ℕ, _+_, _*_, _/_, _%_, _<_}
+use lib.Dec.{eqb}
 use Rattle.document.specs.declared.Node.{Node}
 use Rattle.document.specs.declared.Place.{Place}
 use Rattle.document.specs.declared.Profile.{Profile}
@@ -24,6 +27,9 @@ localColumn A j = j .0 % A
 -- 'The partner of row i, node j is row l, node gA+i.'
 abbrev pub partnerOf : ℕ → Place → Place
 partnerOf A q = place (groupOf A (q .node) * A + q .row .0) (localColumn A (q .node))
+
+unfoldable pub samePlace : Place → Place → Bool
+samePlace q r = eqb (q .node .0) (r .node .0) && eqb (q .row .0) (r .row .0)
 
 -- 'Nodes and rows count from 0.'
 pub record Within (p : Profile) (q : Place) : Type 0 where

@@ -4,13 +4,17 @@
 -- isDiagonal A f j    : node j lies in another group, and its row c on the diagonal: its local column is c
 -- isOffDiagonal A f j : node j lies in another group, at another local column
 -- Walk                : the nodes that each of the three steps goes over, in their order
+-- Complete n A f w    : each step of the walk w goes over each of its candidates once
 -- walkOf p f          : document 01's walk: each step by rising node
 -- rowAt A f j         : the place of node j, row c
 -- pairsAt A f js      : for each of the nodes js its row c, then the partner of that place
 -- stepTwo k w         : the nodes that step 2 lists
 -- stepThree k w       : the nodes that step 3 lists
+-- chosenOver k w      : the nodes of steps 2 and 3
+-- nodesOver k w       : the nodes of the three steps
 -- planOver A k f w    : the places of the three steps over the walk w
 -- planned p f         : the planned places
+-- plannedAt p f i     : the planned place i, from 0
 -- priceOf n k A       : their number
 -- planBytes qs        : places written as two bytes each
 -- planTests p f x     : the refusals of planning, in their order
@@ -19,8 +23,9 @@ use mathlib.Core.Bool.{Bool, _&&_, not}
 use mathlib.Core.List.{List, [], _∷_, _++_, map}
 use Prim.Native.Nat.{ℕ, _+_, _-_, _*_, _/_}
 use lib.Dec.{eqb, ltb}
-use lib.ListN.{length, take, drop}
+use lib.ListN.{length, getD, take, drop}
 use Rattle.lists.specs.Listed.{rising}
+use Rattle.lists.specs.Each.{ListsOnce}
 use Rattle.document.specs.declared.Numbers.{Numbers}
 use Rattle.document.specs.declared.Profile.{Profile}
 use Rattle.document.specs.declared.Node.{Node}
@@ -67,6 +72,12 @@ pub record Walk : Type 0 where
   pub diagonal : List ℕ
   pub off-diagonal : List ℕ
 
+-- What the theorems about plans ask of a walk: a later edition walks in another order.
+pub record Complete (n A : ℕ) (f : Node) (w : Walk) : Type 0 where
+  pub own : ListsOnce n (isOwn A f) (w .own)
+  pub diagonal : ListsOnce n (isDiagonal A f) (w .diagonal)
+  pub off-diagonal : ListsOnce n (isOffDiagonal A f) (w .off-diagonal)
+
 -- Step 1 'by rising node', steps 2 and 3 'rising'.
 abbrev pub walkOf : Profile → Node → Walk
 walkOf p f = record {
@@ -83,12 +94,21 @@ stepTwo k w = take k (w .diagonal)
 abbrev pub stepThree : ℕ → Walk → List ℕ
 stepThree k w = take (k - length (stepTwo k w)) (w .off-diagonal)
 
+abbrev pub chosenOver : ℕ → Walk → List ℕ
+chosenOver k w = stepTwo k w ++ stepThree k w
+
+abbrev pub nodesOver : ℕ → Walk → List ℕ
+nodesOver k w = w .own ++ chosenOver k w
+
 -- 'The plan lists, in this order': row c at the nodes of step 1, row c at those of step 2, two places at those of step 3.
 unfoldable pub planOver : ℕ → ℕ → Node → Walk → List Place
 planOver A k f w = map (rowAt A f) (w .own) ++ (map (rowAt A f) (stepTwo k w) ++ pairsAt A f (stepThree k w))
 
 unfoldable pub planned : Profile → Node → List Place
 planned p f = planOver (p .a) (p .k) f (walkOf p f)
+
+unfoldable pub plannedAt : Profile → Node → ℕ → Place
+plannedAt p f i = getD (planned p f) i (place 0 0)
 
 -- 'The number of places is A-1 + k + max(0, k-(G-1))', where G = n div A.
 abbrev pub priceOf : ℕ → ℕ → ℕ → ℕ

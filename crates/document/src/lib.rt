@@ -38,6 +38,16 @@ pub struct Place {
     pub row: Row,
 }
 
+// What identifies a recording.
+pub struct Recording {
+    pub scenario: u32,
+}
+
+impl Recording {
+    // The bytes that it takes in a field.
+    pub const BYTES: usize = 4;
+}
+
 // Why a call is refused, in the order of document 01's table; `numberOf` in specs/ gives the number.
 pub enum Refusal {
     // 1: n, k or A not accepted

@@ -5,3 +5,6 @@ pub mod Lent
 pub mod Put
 pub mod Each
 pub mod Rising
+pub mod Slice
+pub mod Some
+pub mod Once

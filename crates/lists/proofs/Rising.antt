@@ -1,8 +1,8 @@
--- The laws of `rising`: equality test by test, its entries, all different, and how many there are.
+-- The laws of `rising`: equality test by test, and how many entries there are.
 use mathlib.Core.Path.{_≡_, refl, sym, ap, ap₂, _∙_}
 use mathlib.Core.Bool.{Bool, true, false, _&&_, not, cond}
 use mathlib.Core.List.{List, [], _∷_, _++_}
-use Prim.Native.Nat.{ℕ, zero, suc, _+_, _-_, _*_, _/_, _%_, _≤_, _<_, zero-le}
+use Prim.Native.Nat.{ℕ, zero, suc, _+_, _-_, _*_, _/_, _%_, _≤_, _<_}
 use native.Mathlib.Nat.{add-zero, add-suc, zero-mul, suc-mul, add-mul, one-mul, not-suc-le-zero}
 use native.Mathlib.Decide.{ℕ-discrete}
 use native.Mathlib.Omega.{arith}
@@ -11,8 +11,6 @@ use lib.Dec.{eqb}
 use lib.ListN.{length, length-append}
 use borrow.Author.Tests.{eq-eqb, ne-eqb}
 use Rattle.lists.specs.Listed.{rising}
-use Rattle.lists.specs.Each.{Each, none, also, Distinct, empty, new}
-use Rattle.lists.proofs.Each.{each-append, each-map, distinct-append}
 
 pub rising-ext : (n : ℕ) (P Q : ℕ → Bool) → ((e : ℕ) → e < n → P e ≡ Q e) → rising n P ≡ rising n Q
 unfolding rising
@@ -25,7 +23,7 @@ rising-ext (suc n) P Q h =
 abbrev count : ℕ → (ℕ → Bool) → ℕ
 count n P = length (rising n P)
 
-count-next : (n : ℕ) (P : ℕ → Bool) → count (suc n) P ≡ count n P + cond (P n) 1 0
+pub count-next : (n : ℕ) (P : ℕ → Bool) → count (suc n) P ≡ count n P + cond (P n) 1 0
 unfolding rising
 count-next n P = length-append (rising n P) (cond (P n) (n ∷ []) []) ∙ ap (λ (c : ℕ). count n P + c) (one (P n))
   where
@@ -103,36 +101,5 @@ count-digits (suc g) A Q R =
         (rising-ext A (λ e. P (g * A + e)) (λ e. Q g && R e)
         (λ e l. ap₂ (λ (h r : ℕ). Q h && R r) (digits-div g l) (digits-mod g l)))
 
--- at most n entries, each below n and passing, none of them twice
-module _ (P : ℕ → Bool) where
-  pub rising-length : (n : ℕ) → length (rising n P) ≤ n
-  unfolding rising
-  rising-length zero = zero-le
-  rising-length (suc n) = rw length-append (omega (arith, rising-length n, one (P n)))
-    where
-      one : (b : Bool) → length (cond b (n ∷ []) []) ≤ 1
-      one true = omega arith
-      one false = omega arith
-
-  pub rising-each : (n : ℕ) → Each (λ j. (P j ≡ true) × (j < n)) (rising n P)
-  unfolding rising
-  rising-each zero = none
-  rising-each (suc n) = each-append (each-map (λ j r. (r .0, omega arith)) (rising-each n)) (one (P n) refl)
-    where
-      one : (b : Bool) → P n ≡ b → Each (λ j. (P j ≡ true) × (j < suc n)) (cond b (n ∷ []) [])
-      one true e = also (e, omega arith) none
-      one false e = none
-
-  pub rising-distinct : (n : ℕ) → Distinct (rising n P)
-  unfolding rising
-  rising-distinct zero = empty
-  rising-distinct (suc n) =
-      distinct-append (λ x y r s e. omega arith) (rising-each n) (last (P n)) (rising-distinct n) (once (P n))
-    where
-      last : (b : Bool) → Each (λ y. y ≡ n) (cond b (n ∷ []) [])
-      last true = also refl none
-      last false = none
-
-      once : (b : Bool) → Distinct (cond b (n ∷ []) [])
-      once true = new none empty
-      once false = empty
+pub rising-length : (P : ℕ → Bool) (n : ℕ) → length (rising n P) ≤ n
+rising-length P n = omega (arith, count-not n P)

@@ -13,7 +13,6 @@ use Rattle.lists.specs.Put.{put, Wrote}
 use Rattle.lists.proofs.Put.{wrote-then}
 use Rattle.lists.specs.Each.{Each}
 use Rattle.lists.proofs.Each.{each-append, each-take, each-map}
-use Rattle.lists.proofs.Rising.{rising-each}
 use Rattle.document.specs.declared.Profile.{Profile}
 use Rattle.document.specs.declared.Node.{Node}
 use Rattle.document.specs.Profile.{Accepted}
@@ -29,7 +28,7 @@ use Rattle.document.specs.Plan.{
   planOver,
   planned,
 }
-use Rattle.document.proofs.Price.{diagonal-count, off-diagonal-count, nodes-enough}
+use Rattle.document.proofs.Walks.{Sound, complete-sound, walk-complete, nodes-enough}
 use Rattle.plan.specs.Steps.{placesOf}
 use Rattle.plan.proofs.Places.{places-append, singles, pairs}
 
@@ -75,11 +74,14 @@ module _ (p : Profile) (acc : Accepted p) (f : Node) (h : f .0 < p .n) where
   abbrev pub planNodes : List ℕ
   planNodes = own ++ (second ++ third)
 
+  sound : Sound n A f (walkOf p f)
+  sound = complete-sound p acc f h (walkOf p f) (walk-complete p f)
+
   -- steps 2 and 3 have k nodes to go over
   enough : k ≤ length (diagonal ++ off)
   enough =
-      rw (length-append, diagonal-count p acc f h, off-diagonal-count p acc f h)
-      (omega (arith, mul-sub (n / A - 1) A 1, nodes-enough p acc f h))
+      rw (length-append, sound .diagonal-length, sound .off-diagonal-length)
+      (omega (arith, mul-sub (n / A - 1) A 1, nodes-enough p acc))
 
   front-nodes : (rest : List ℕ) → take (length own + k) (((own ++ diagonal) ++ off) ++ rest) ≡ planNodes
   front-nodes rest =
@@ -101,12 +103,9 @@ module _ (p : Profile) (acc : Accepted p) (f : Node) (h : f .0 < p .n) where
 
   pub nodes-below : Each (λ j. j < n) planNodes
   nodes-below =
-      each-append (below (isOwn A f))
-      (each-append (each-take k (below (isDiagonal A f)))
-      (each-take (k - length second) (below (isOffDiagonal A f))))
-    where
-      below : (P : ℕ → Bool) → Each (λ j. j < n) (rising n P)
-      below P = each-map (λ j r. r .1) (rising-each P n)
+      each-append (each-map (λ j r. r .1) (sound .own))
+      (each-append (each-take k (each-map (λ j r. r .1) (sound .diagonal)))
+      (each-take (k - length second) (each-map (λ j r. r .1) (sound .off-diagonal))))
 
   abbrev group : ℕ → Bool
   group j = eqb (j / A) (f .0 / A)
@@ -116,17 +115,16 @@ module _ (p : Profile) (acc : Accepted p) (f : Node) (h : f .0 < p .n) where
 
   own-places : placesOf A f own ≡ map (rowAt A f) own
   unfolding isOwn isOffDiagonal
-  own-places =
-      singles A f (each-map (λ j r. own-single (group j) (column j) (r .0)) (rising-each (isOwn A f) n))
+  own-places = singles A f (each-map (λ j r. own-single (group j) (column j) (r .0)) (sound .own))
 
   diagonal-places : placesOf A f second ≡ map (rowAt A f) second
   unfolding isDiagonal isOffDiagonal
   diagonal-places =
-      singles A f (each-take k
-      (each-map (λ j r. diagonal-single (group j) (column j) (r .0)) (rising-each (isDiagonal A f) n)))
+      singles A f
+      (each-take k (each-map (λ j r. diagonal-single (group j) (column j) (r .0)) (sound .diagonal)))
 
   off-places : placesOf A f third ≡ pairsAt A f third
-  off-places = pairs A f (each-take (k - length second) (each-map (λ j r. r .0) (rising-each (isOffDiagonal A f) n)))
+  off-places = pairs A f (each-take (k - length second) (each-map (λ j r. r .0) (sound .off-diagonal)))
 
   pub plan-places : placesOf A f planNodes ≡ planned p f
   unfolding planned planOver

@@ -15,7 +15,11 @@ use Rattle.algebra.specs.Weight.{weight}
 use Rattle.document.specs.declared.Numbers.{Numbers}
 use Rattle.document.specs.declared.Answer.{Answer}
 use Rattle.document.specs.Refusals.{tried, answerNumber, answerValue}
-use Rattle.document.specs.Profile.{shapeAccepted, constantAccepted, stripAccepted, profileTests}
+use Rattle.algebra.specs.Coupling.{base, factor}
+use Rattle.algebra.specs.Rebuild.{rowAt, otherAt, rebuiltAt}
+use Rattle.document.specs.Places.{samePlace}
+use Rattle.document.specs.Rebuild.{positionOf, givenAt, rebuiltOver, rebuiltOf}
+use Rattle.document.specs.Profile.{shapeAccepted, constantAccepted, stripAccepted, profileTests, profileOf}
 use Rattle.document.specs.Bytes.{bytes, byte, number}
 use Rattle.document.specs.Encoding.{
   start,
@@ -24,6 +28,7 @@ use Rattle.document.specs.Encoding.{
   constantOf,
   coupledAt,
   laidOut,
+  columnOf,
   encoded,
   encodeTests,
   encodeOf,
@@ -56,11 +61,15 @@ outcome (answer, x) = answerNumber answer ∷ answerValue answer ∷ x
 abbrev pub outerColumns : Answer × List ℕ → List ℕ
 outerColumns (answer, x) = outcome (answer, take 2 x ++ drop 6 x)
 
+-- The column of a lost node rebuilt from strips of one byte, given in plan order.
+abbrev pub rebuilt : ℕ → List ℕ → List ℕ
+rebuilt f strips = rebuiltOf (profileOf (profile 2)) (record { 0 = f }) strips 0 1
+
 -- A buffer that is lent, with something in it.
 unfoldable pub lent : List ℕ
 lent = replicate 8 0xFF
 
--- M1 to M6 and M9, in document 01's order.
+-- M1 to M9, in document 01's order.
 unfoldable pub marked : List Case
 marked =
     record { gives = 128 ⊗ 128 ∷ []; says = 19 ∷ [] }
@@ -79,6 +88,14 @@ marked =
       says = 0 ∷ 4 ∷ 2 ∷ 1 ∷ 1 ∷ 1 ∷ 0 ∷ 1 ∷ 1 ∷ 0 ∷ [];
     }
     ∷ record {
+      gives = rebuilt 0 (0x02 ∷ 0x07 ∷ 0x0C ∷ 0x00 ∷ []);
+      says = 0x01 ∷ 0x04 ∷ [];
+    }
+    ∷ record {
+      gives = rebuilt 3 (0x00 ∷ 0x04 ∷ 0x04 ∷ 0x02 ∷ []);
+      says = 0x0C ∷ 0x0C ∷ [];
+    }
+    ∷ record {
       gives = outerColumns (encodeOf (profile 5) (0x00 ∷ 0x05 ∷ 0x01 ∷ 0x06 ∷ []) lent);
       says = 0 ∷ 0 ∷ 0x00 ∷ 0x00 ∷ 0x00 ∷ 0x00 ∷ [];
     }
@@ -89,5 +106,5 @@ pub shown : map (λ c. c .gives) marked ≡ map (λ c. c .says) marked
 unfolding marked lent encodeOf encodeTests profileTests shapeAccepted constantAccepted stripAccepted tried answerNumber
     answerValue encoded laidOut coupledAt constantOf baseAt byteAt start listed sum weight byte number bytes _⊕_ _⊗_
     double bitProduct raised inverse ℕ-discrete decLt planOf planTests planned planOver pairsAt planBytes isOwn isDiagonal
-    isOffDiagonal rising
+    isOffDiagonal rising rebuiltOf rebuiltOver givenAt positionOf samePlace columnOf rebuiltAt rowAt otherAt base factor
 shown = refl

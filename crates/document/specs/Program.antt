@@ -1,0 +1,72 @@
+-- 'What the store holds': the small program, from the bytes of its standard input to those of its standard output.
+--
+-- byteIn input i     : byte i of the input; 0 where it is missing
+-- numbersIn input    : the wanted profile's numbers
+-- lostIn input       : the wanted node
+-- recordingIn input  : the wanted recording
+-- programHead        : the length of these
+-- decimal v          : a number below 100 in decimal digits
+-- lineOf r           : the line for the refusal r
+-- outputOf outcome   : what is written for the outcome of a rebuild
+-- programOf input    : what the program writes
+use mathlib.Core.Bool.{cond}
+use mathlib.Core.List.{List, [], _∷_, _++_}
+use Prim.Native.Nat.{ℕ, _+_, _*_, _/_, _%_}
+use lib.Dec.{ltb}
+use lib.ListN.{getD, drop, replicate}
+use Rattle.document.specs.declared.Numbers.{Numbers}
+use Rattle.document.specs.declared.Recording.{Recording}
+use Rattle.document.specs.declared.Refusal.{Refusal}
+use Rattle.document.specs.declared.Answer.{Answer}
+use Rattle.document.specs.declared.Answer.the-variants.{Done, Refused}
+use Rattle.document.specs.Refusals.{numberOf, indexOf}
+use Rattle.document.specs.Rebuild.{rebuildOf}
+
+-- 'bytes that are missing count as 0'
+abbrev pub byteIn : List ℕ → ℕ → ℕ
+byteIn input i = getD input i 0
+
+-- 'eleven bytes (n, k, A, t, S in two, wanted node, wanted scenario in four; ..)'
+abbrev pub programHead : ℕ
+programHead = 11
+
+unfoldable pub numbersIn : List ℕ → Numbers
+numbersIn input = record {
+  n = byteIn input 0;
+  k = byteIn input 1;
+  a = byteIn input 2;
+  t = byteIn input 3;
+  s = byteIn input 4 * 256 + byteIn input 5;
+}
+
+unfoldable pub lostIn : List ℕ → ℕ
+lostIn input = byteIn input 6
+
+unfoldable pub recordingIn : List ℕ → Recording
+recordingIn input = record {
+  scenario = ((byteIn input 7 * 256 + byteIn input 8) * 256 + byteIn input 9) * 256 + byteIn input 10;
+}
+
+-- A refusal's number is at most 10, and a bundle has at most 38 strips.
+unfoldable pub decimal : ℕ → List ℕ
+decimal v = cond (ltb v 10) ((48 + v) ∷ []) ((48 + v / 10) ∷ (48 + v % 10) ∷ [])
+
+-- 'one line such as `refused 8 at 0` with the number and the strip's index': "refused ", the number, " at ", the index,
+-- and the end of the line.
+unfoldable pub lineOf : Refusal → List ℕ
+lineOf r =
+    0x72 ∷ 0x65 ∷ 0x66 ∷ 0x75 ∷ 0x73 ∷ 0x65 ∷ 0x64 ∷ 0x20
+    ∷ (decimal (numberOf r) ++ (0x20 ∷ 0x61 ∷ 0x74 ∷ 0x20 ∷ (decimal (indexOf r) ++ (0x0A ∷ []))))
+
+-- 'It writes the column's bytes, or one line'
+unfoldable pub outputOf : Answer × List ℕ → List ℕ
+outputOf (Done v, column) = column
+outputOf (Refused r, column) = lineOf r
+
+-- '.. and then a bundle, which is all that follows'. The column that the program lends to the rebuild has the right
+-- length.
+unfoldable pub programOf : List ℕ → List ℕ
+programOf input =
+    let p : Numbers = numbersIn input in
+    outputOf
+    (rebuildOf p (lostIn input) (recordingIn input) (drop programHead input) (replicate (p .a * p .s) 0))

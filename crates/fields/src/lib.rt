@@ -1,0 +1,1 @@
+// Fields of a tag, a length and content: written and compared.

@@ -1,0 +1,151 @@
+-- A list that lists each number below n for which P holds once: its entries pass and differ, none is missing, and there
+-- are as many as there are in the rising list, which is one such list.
+use mathlib.Core.Path.{_≡_, refl, sym, ap, ap₂, _∙_}
+use mathlib.Core.Logic.{_≢_}
+use mathlib.Core.Bool.{Bool, true, false, _&&_, cond}
+use mathlib.Core.List.{List, [], _∷_, _++_}
+use Prim.Native.Nat.{ℕ, zero, suc, _+_, _≤_, _<_}
+use native.Mathlib.Nat.{zero-add, add-zero, add-assoc, not-suc-le-zero}
+use native.Mathlib.Decide.{ℕ-discrete, decLt}
+use native.Mathlib.Omega.{arith}
+use lib.Dec.{eqb, ltb}
+use lib.ListN.{length, getD}
+use borrow.Author.Tests.{ltb-true, lt-ltb, le-ltb, eq-eqb, ne-eqb}
+use Rattle.lists.specs.Listed.{rising}
+use Rattle.lists.specs.Each.{Each, none, also, Distinct, empty, new, times, ListsOnce}
+use Rattle.lists.proofs.Each.{each-map}
+use Rattle.lists.proofs.Rising.{count-next, count-one}
+
+-- ---- how often a number stands in a list
+times-here : (j : ℕ) (xs : List ℕ) → times j (j ∷ xs) ≡ suc (times j xs)
+unfolding times
+times-here j xs = rw (eq-eqb j j refl) (omega arith)
+
+times-later : (j x : ℕ) (xs : List ℕ) → times j xs ≤ times j (x ∷ xs)
+unfolding times
+times-later j x xs = omega arith
+
+times-other : (j x : ℕ) (xs : List ℕ) → j ≢ x → times j (x ∷ xs) ≡ times j xs
+unfolding times
+times-other j x xs h = rw (ne-eqb j x h, zero-add)
+
+times-append : (j : ℕ) (xs ys : List ℕ) → times j (xs ++ ys) ≡ times j xs + times j ys
+unfolding times
+times-append j [] ys = sym (zero-add (times j ys))
+times-append j (x ∷ xs) ys =
+    ap (λ (m : ℕ). cond (eqb j x) 1 0 + m) (times-append j xs ys)
+    ∙ sym (add-assoc (cond (eqb j x) 1 0) (times j xs) (times j ys))
+
+-- what holds of each number that stands in a list
+members : {R : ℕ → Type 0} (xs : List ℕ) → ((j : ℕ) → 0 < times j xs → R j) → Each R xs
+members [] h = none
+members (x ∷ xs) h =
+    also (h x (omega (arith, times-here x xs))) (members xs (λ j l. h j (omega (arith, times-later j x xs))))
+
+absent : (j : ℕ) (xs : List ℕ) → times j xs ≡ 0 → Each (λ y. j ≢ y) xs
+absent j xs h = members xs (λ y l e. omega (arith, ap (λ (i : ℕ). times i xs) e))
+
+at-most-once : (xs : List ℕ) → ((j : ℕ) → times j xs ≤ 1) → Distinct xs
+at-most-once [] h = empty
+at-most-once (x ∷ xs) h =
+    new (absent x xs (omega (arith, h x, times-here x xs)))
+    (at-most-once xs (λ j. omega (arith, h j, times-later j x xs)))
+
+stands : (j : ℕ) (xs : List ℕ) → 0 < times j xs → (i : ℕ) × (i < length xs) × (getD xs i 0 ≡ j)
+unfolding times
+stands j [] h = absurd (not-suc-le-zero h)
+stands j (x ∷ xs) h = go (ℕ-discrete j x) (stands j xs)
+  where
+    go : Dec (j ≡ x) → (0 < times j xs → (i : ℕ) × (i < length xs) × (getD xs i 0 ≡ j))
+        → (i : ℕ) × (i < length (x ∷ xs)) × (getD (x ∷ xs) i 0 ≡ j)
+    go (yes e) later = (0, omega arith, sym e)
+    go (no e) later =
+        let found = later (omega (arith, times-other j x xs e)) in
+        (suc (found .0), omega (arith, found .1), found .2)
+
+-- ---- sums over the numbers below n
+total : ℕ → (ℕ → ℕ) → ℕ
+total zero F = 0
+total (suc n) F = total n F + F n
+
+total-ext : (n : ℕ) (F G : ℕ → ℕ) → ((j : ℕ) → j < n → F j ≡ G j) → total n F ≡ total n G
+unfolding total
+total-ext zero F G h = refl
+total-ext (suc n) F G h =
+    ap₂ (λ (u v : ℕ). u + v) (total-ext n F G (λ j l. h j (omega arith))) (h n (omega arith))
+
+total-zero : (n : ℕ) → total n (λ j. 0) ≡ 0
+unfolding total
+total-zero zero = refl
+total-zero (suc n) = add-zero (total n (λ j. 0)) ∙ total-zero n
+
+total-add : (n : ℕ) (F G : ℕ → ℕ) → total n (λ j. F j + G j) ≡ total n F + total n G
+unfolding total
+total-add zero F G = refl
+total-add (suc n) F G = omega (arith, total-add n F G)
+
+total-count : (n : ℕ) (P : ℕ → Bool) → total n (λ j. cond (P j) 1 0) ≡ length (rising n P)
+unfolding rising total
+total-count zero P = refl
+total-count (suc n) P = ap (λ (m : ℕ). m + cond (P n) 1 0) (total-count n P) ∙ sym (count-next n P)
+
+-- a list of numbers below n has as many entries as those numbers stand in it
+total-times : (n : ℕ) {xs : List ℕ} → Each (λ j. j < n) xs → total n (λ j. times j xs) ≡ length xs
+unfolding times
+total-times n none = total-zero n
+total-times n (also {x = x} {xs = xs} h hs) =
+    total-add n (λ j. cond (eqb j x) 1 0) (λ j. times j xs)
+    ∙ ap₂ (λ (u v : ℕ). u + v) (total-count n (λ j. eqb j x) ∙ count-one n x h) (total-times n hs)
+    ∙ omega arith
+
+-- ---- each number below n for which P holds, once
+both : (a b : Bool) → 0 < cond (a && b) 1 0 → (a ≡ true) × (b ≡ true)
+both true true h = (refl, refl)
+both true false h = absurd (not-suc-le-zero h)
+both false b h = absurd (not-suc-le-zero h)
+
+single : (b : Bool) → cond b 1 0 ≤ 1
+single true = omega arith
+single false = omega arith
+
+module _ (n : ℕ) (P : ℕ → Bool) where
+  module _ (xs : List ℕ) (once : ListsOnce n P xs) where
+    pub once-each : Each (λ j. (P j ≡ true) × (j < n)) xs
+    once-each = members xs (λ j h. passes j (both (ltb j n) (P j) (rw (once j) at h)))
+      where
+        passes : (j : ℕ) → (ltb j n ≡ true) × (P j ≡ true) → (P j ≡ true) × (j < n)
+        passes j e = (e .1, ltb-true j n (e .0))
+
+    pub once-distinct : Distinct xs
+    once-distinct = at-most-once xs (λ j. rw (once j) (single (ltb j n && P j)))
+
+    pub once-length : length xs ≡ length (rising n P)
+    once-length =
+        sym (total-times n (each-map (λ j r. r .1) once-each))
+        ∙ total-ext n (λ j. times j xs) (λ j. cond (P j) 1 0) (λ j h. once j ∙ simp (lt-ltb j n h))
+        ∙ total-count n P
+
+    pub once-has : (j : ℕ) → j < n → P j ≡ true → (i : ℕ) × (i < length xs) × (getD xs i 0 ≡ j)
+    once-has j h e =
+        let listed : times j xs ≡ 1 = once j ∙ simp (lt-ltb j n h, e) in
+        stands j xs (omega (arith, listed))
+
+pub rising-once : (n : ℕ) (P : ℕ → Bool) → ListsOnce n P (rising n P)
+unfolding rising times
+rising-once zero P j = simp (le-ltb j 0 (omega arith))
+rising-once (suc n) P j =
+    times-append j (rising n P) (cond (P n) (n ∷ []) [])
+    ∙ ap₂ (λ (u v : ℕ). u + v) (rising-once n P j) (last (eqb j n) (P n) refl)
+    ∙ go (ℕ-discrete j n) (decLt j n)
+  where
+    last : (a b : Bool) → eqb j n ≡ a → times j (cond b (n ∷ []) []) ≡ cond (a && b) 1 0
+    last true true e = rw e refl
+    last true false e = refl
+    last false true e = rw e refl
+    last false false e = refl
+
+    go : Dec (j ≡ n) → Dec (j < n)
+        → cond (ltb j n && P j) 1 0 + cond (eqb j n && P n) 1 0 ≡ cond (ltb j (suc n) && P j) 1 0
+    go (yes e) d = rw e (simp (le-ltb n n (omega arith), eq-eqb n n refl, lt-ltb n (suc n) (omega arith)) (omega arith))
+    go (no e) (yes d) = simp (lt-ltb j n d, ne-eqb j n e, lt-ltb j (suc n) (omega arith)) (omega arith)
+    go (no e) (no d) = simp (le-ltb j n (omega arith), ne-eqb j n e, le-ltb j (suc n) (omega arith))
