@@ -8,7 +8,12 @@
  *
  * Answers: WHAUPFIELD_NUMBER is 0 on success, otherwise the number of the refusal; WHAUPFIELD_VALUE is what comes with it.
  *   1  n, k or a not accepted        2  t not in 2..255        3  s is 0 or above 512
- *   4  the lost node is not below n  5  a lent buffer has the wrong length
+ *   4  the lost node is not below n  5  a lent buffer other than a bundle to read has the wrong length
+ *   6  the bundle's total length, its tags or its field lengths are not those of the wanted profile and node
+ *   7  the content of its field 01 or 02 is not the wanted profile, node and scenario
+ *   8  a strip's place is not the plan's             9  a strip's scenario is not the wanted one
+ * The first in this order that applies is the answer: a misplaced strip goes before a stale one, wherever they stand.
+ * With 8 and 9 comes the index of the first such strip, from 0; with the others 0.
  */
 #ifndef WHAUPFIELD_H
 #define WHAUPFIELD_H
@@ -33,6 +38,21 @@ uint64_t whaupfield_encode(size_t n, size_t k, size_t a, size_t t, size_t s,
  * fragments needed. */
 uint64_t whaupfield_plan(size_t n, size_t k, size_t a, size_t t, size_t s, size_t lost,
                          uint8_t *places, size_t places_length);
+
+/* Write bundle: cuts the bundle for rebuilding the lost node from the n*a*s bytes of a stored array, and puts this
+ * scenario number into field 02 and every strip's field. The bundle has 17 + P * (9 + s) bytes, P the plan's number of
+ * places; both buffers have exactly the length said here. Only the planned places are read, so the lost column may hold
+ * anything. Value: the bundle's length. Refused with 1, 2, 3, 4 or 5. */
+uint64_t whaupfield_write_bundle(size_t n, size_t k, size_t a, size_t t, size_t s, size_t lost, uint32_t scenario,
+                                 const uint8_t *array, size_t array_length,
+                                 uint8_t *bundle, size_t bundle_length);
+
+/* Rebuild: writes the a*s bytes of the lost node's column, row 0 first, from a bundle for the wanted profile, node and
+ * scenario. The bundle may be any bytes of any length: one that is not in order is 6, 7, 8 or 9, never 5. A buffer for
+ * the column that has not a*s bytes is 5. Value 0. Refused with 1 to 9. Peers call it reconstruct. */
+uint64_t whaupfield_rebuild(size_t n, size_t k, size_t a, size_t t, size_t s, size_t lost, uint32_t scenario,
+                            const uint8_t *bundle, size_t bundle_length,
+                            uint8_t *column, size_t column_length);
 
 /* The product of two bytes in the field of 0x11D. */
 uint8_t whaupfield_product(uint8_t a, uint8_t b);

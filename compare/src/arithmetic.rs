@@ -13,7 +13,7 @@ pub fn products(_: &mut Random) -> Outcome {
             cases += 1;
         }
     }
-    Ok(vec![Count { what: "products", cases }])
+    Ok(vec![Count::of("products", cases)])
 }
 
 pub fn inverses(_: &mut Random) -> Outcome {
@@ -22,7 +22,7 @@ pub fn inverses(_: &mut Random) -> Outcome {
         agree("inverse", &[a], library::inverse(a), field::inverse(a))?;
         cases += 1;
     }
-    Ok(vec![Count { what: "inverses", cases }])
+    Ok(vec![Count::of("inverses", cases)])
 }
 
 /// Document 01's M1, M2 and M3, as they are printed there.
@@ -30,7 +30,7 @@ pub fn samples(_: &mut Random) -> Outcome {
     agree("sample M1, product", &[128, 128], library::product(128, 128), 19)?;
     agree("sample M2, inverse", &[2], library::inverse(2), 142)?;
     agree("sample M3, product", &[3, 3], library::product(3, 3), 5)?;
-    Ok(vec![Count { what: "samples of the field", cases: 3 }])
+    Ok(vec![Count::of("samples of the field", 3)])
 }
 
 fn agree(what: &str, of: &[u8], given: u8, expected: u8) -> Result<(), String> {

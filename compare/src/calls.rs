@@ -1,8 +1,9 @@
-//! What the kinds about whole calls share: their tally, and numbers that are refused.
+//! What the kinds about whole calls share: their tally, and numbers to call with.
 
-use crate::code::Refusal;
+use crate::code::{self, Profile, Refusal};
+use crate::download::Wanted;
 use crate::random::Random;
-use crate::Count;
+use crate::{Count, Outcome};
 
 /// One call with all that it is given.
 pub trait Call {
@@ -10,24 +11,34 @@ pub trait Call {
     fn compare(&self, random: &mut Random) -> Result<Option<Refusal>, String>;
 }
 
-/// How many calls were accepted and refused.
+/// How many calls were accepted, and how many refused with each number.
 #[derive(Default)]
 pub struct Tally {
     accepted: usize,
-    refused: usize,
+    refused: [usize; 10],
 }
+
+/// How often a call must be seen to give each of its refusals.
+const OFTEN: usize = 100;
 
 impl Tally {
     pub fn compare(&mut self, call: impl Call, random: &mut Random) -> Result<(), String> {
         match call.compare(random)? {
             None => self.accepted += 1,
-            Some(_) => self.refused += 1,
+            Some(refusal) => self.refused[usize::from(refusal.number())] += 1,
         }
         Ok(())
     }
 
-    pub fn counts(&self, accepted: &'static str, refused: &'static str) -> Vec<Count> {
-        vec![Count { what: accepted, cases: self.accepted }, Count { what: refused, cases: self.refused }]
+    /// The counts of a call that has the refusals with these numbers.
+    pub fn counts(&self, accepted: &'static str, refused: &'static str, numbers: &[u8]) -> Outcome {
+        let by_refusal: Vec<(u8, usize)> =
+            numbers.iter().map(|&number| (number, self.refused[usize::from(number)])).collect();
+        if let Some((number, cases)) = by_refusal.iter().find(|(_, cases)| *cases < OFTEN) {
+            return Err(format!("{refused}: number {number} was met {cases} times, not {OFTEN}"));
+        }
+        let cases = self.refused.iter().sum();
+        Ok(vec![Count::of(accepted, self.accepted), Count { what: refused, cases, by_refusal }])
     }
 }
 
@@ -77,4 +88,107 @@ pub fn refused_nodes_and_rows() -> Vec<(usize, usize, usize)> {
         refused.extend([(huge, 2, 2), (4, huge, 2), (4, 2, huge), (huge, huge, 2), (huge, huge, huge)]);
     }
     refused
+}
+
+/// An accepted t and S, often at an edge, with these accepted numbers.
+pub fn random_profile(n: usize, k: usize, rows: usize, random: &mut Random) -> Profile {
+    let (any_t, any_s) = (random.between(2, 255), random.between(1, 512));
+    Profile { n, k, rows, t: random.one_of(&[2, 255, any_t, any_t]), s: random.one_of(&[1, 512, any_s, any_s]) }
+}
+
+/// A profile and a lost node: all small n, k and A; then all small t, S and lost nodes of accepted n, k and A.
+pub fn small_numbers(random: &mut Random) -> Vec<(Profile, usize)> {
+    let mut numbers = Vec::new();
+    for n in 0..=30 {
+        for k in 0..=30 {
+            numbers.extend((0..=6).map(|rows| (random_profile(n, k, rows, random), random.between(0, 30))));
+        }
+    }
+    for (n, k, rows) in [(4, 2, 2), (6, 3, 3), (8, 4, 4)] {
+        let profile = Profile { n, k, rows, t: 3, s: 2 };
+        numbers.extend((0..=600).map(|t| (Profile { t, ..profile }, n - 1)));
+        numbers.extend((0..=1100).map(|s| (Profile { s, ..profile }, n - 1)));
+        numbers.extend((0..=600).map(|lost| (profile, lost)));
+    }
+    numbers
+}
+
+/// A profile and a lost node: every mixture of refusals 1, 2, 3 and 4, also of none, with each way to come to each.
+pub fn numbers_in_every_order() -> Vec<(Profile, usize)> {
+    let mut shapes = vec![(4, 2, 2), (4, 1, 2), (6, 3, 3), (8, 4, 4), (24, 20, 4)];
+    shapes.extend(refused_nodes_and_rows());
+    let mut numbers = Vec::new();
+    for (n, k, rows) in shapes {
+        let mut nodes = vec![0, n.saturating_sub(1), n, n.saturating_add(1), 256, 260];
+        nodes.extend(HUGE);
+        for t in [2, 255, 0, 1, 256, 258, 1 << 32, (1 << 63) + 2, usize::MAX] {
+            for s in [1, 512, 0, 513, 65537, 1 << 32, 1 << 63, usize::MAX] {
+                numbers.extend(nodes.iter().map(|&lost| (Profile { n, k, rows, t, s }, lost)));
+            }
+        }
+    }
+    numbers
+}
+
+/// A number near the edges of what is accepted, or one that a narrower type would cut down to such a number.
+fn edge(edges: &[usize], random: &mut Random) -> usize {
+    let small = random.between(0, 30);
+    let cut_down = small + random.one_of(&[1 << 8, 1 << 16, 1 << 32, 1 << 63]);
+    let (near, huge) = (random.one_of(edges), random.one_of(&HUGE));
+    random.one_of(&[near, near, small, cut_down, huge])
+}
+
+/// Replaces one number of accepted ones, perhaps replaced before, by another.
+pub fn replace_number(accepted: &Profile, profile: &mut Profile, lost: &mut usize, random: &mut Random) {
+    let Profile { n, k, rows, .. } = *accepted;
+    match random.between(0, 9) {
+        0 => profile.n = edge(&[k, n - 1, n + 1, 24, 25, 260], random),
+        1 => profile.k = edge(&[0, 1, n - rows, n - rows + 1, n], random),
+        2 => profile.rows = edge(&[0, 1, 2, 3, 4, 5], random),
+        3 | 4 => profile.t = edge(&[0, 1, 2, 255, 256, 257], random),
+        5 | 6 => profile.s = edge(&[0, 1, 512, 513, 1024], random),
+        _ => *lost = edge(&[n - 1, n, n + 1, 256, 260], random),
+    }
+}
+
+/// A scenario number, often at an edge.
+pub fn random_scenario(random: &mut Random) -> u32 {
+    let any = random.number() as u32;
+    random.one_of(&[0, 7, 1 << 24, u32::MAX, any, any, any])
+}
+
+/// Numbers like these that a bundle can be made for, and its length told: what a narrower type would leave of them
+/// where that is small, else those of document 01's samples.
+pub fn small_like(wanted: &Wanted) -> Wanted {
+    let byte = |number: usize| number & 0xFF;
+    let Profile { n, k, rows, t, s } = wanted.profile;
+    let (mut n, mut k, mut rows, s) = (byte(n), byte(k), byte(rows), s & 0xFFFF);
+    let small = n <= 30 && (1..=n).contains(&k) && (1..=6).contains(&rows) && rows <= n && n % rows == 0;
+    if !small {
+        (n, k, rows) = (4, 2, 2);
+    }
+    let profile = Profile { n, k, rows, t: byte(t), s: if s <= 1100 { s } else { 1 } };
+    Wanted { profile, lost: if byte(wanted.lost) < n { byte(wanted.lost) } else { 0 }, ..*wanted }
+}
+
+/// Each accepted (n, k, A) with each lost node, any t and scenario number, and a short strip.
+pub fn every_lost_node(random: &mut Random) -> Vec<Wanted> {
+    let mut all = Vec::new();
+    for (n, k, rows) in code::all_accepted() {
+        for lost in 0..n {
+            let profile = Profile { s: random.between(1, 8), ..random_profile(n, k, rows, random) };
+            all.push(Wanted { profile, lost, scenario: random_scenario(random) });
+        }
+    }
+    all
+}
+
+/// Each accepted (n, k, A) with one lost node, any t and scenario number, and a strip of one of these lengths.
+pub fn every_shape(strip_lengths: std::ops::RangeInclusive<usize>, random: &mut Random) -> Vec<Wanted> {
+    let (shortest, longest) = strip_lengths.into_inner();
+    let any = |(n, k, rows): (usize, usize, usize)| {
+        let profile = Profile { s: random.between(shortest, longest), ..random_profile(n, k, rows, random) };
+        Wanted { profile, lost: random.between(0, n - 1), scenario: random_scenario(random) }
+    };
+    code::all_accepted().into_iter().map(any).collect()
 }

@@ -6,14 +6,42 @@ pub const MOST_NODES: usize = 24;
 pub const MOST_ROWS: usize = 4;
 pub const MOST_STRIP_BYTES: usize = 512;
 
-/// The refusals by number. 0 is success.
+/// The refusals, the last two with the index of the first such strip.
 #[derive(Clone, Copy, PartialEq, Debug)]
 pub enum Refusal {
-    NodesOrRows = 1,
-    Constant = 2,
-    StripLength = 3,
-    LostNode = 4,
-    BufferLength = 5,
+    NodesOrRows,
+    Constant,
+    StripLength,
+    LostNode,
+    BufferLength,
+    BundleForm,
+    BundleHead,
+    Misplaced(usize),
+    Stale(usize),
+}
+
+impl Refusal {
+    pub fn number(self) -> u8 {
+        match self {
+            Refusal::NodesOrRows => 1,
+            Refusal::Constant => 2,
+            Refusal::StripLength => 3,
+            Refusal::LostNode => 4,
+            Refusal::BufferLength => 5,
+            Refusal::BundleForm => 6,
+            Refusal::BundleHead => 7,
+            Refusal::Misplaced(_) => 8,
+            Refusal::Stale(_) => 9,
+        }
+    }
+
+    /// "8 and 9 come with the index of the first such strip, from 0; the others with 0."
+    pub fn index(self) -> usize {
+        match self {
+            Refusal::Misplaced(index) | Refusal::Stale(index) => index,
+            _ => 0,
+        }
+    }
 }
 
 /// The numbers of a profile as a caller gives them, accepted or not.
@@ -74,9 +102,19 @@ impl Profile {
         self.n * self.rows * self.s
     }
 
+    /// AS.
+    pub fn column_length(&self) -> usize {
+        self.rows * self.s
+    }
+
     /// "In memory, strip (row i, node j) starts at (jA+i)S".
     pub fn strip_start(&self, place: Place) -> usize {
         (place.node * self.rows + place.row) * self.s
+    }
+
+    /// A node's column in an array.
+    pub fn column_of<'a>(&self, array: &'a [u8], node: usize) -> &'a [u8] {
+        &array[self.strip_start(Place { node, row: 0 })..][..self.column_length()]
     }
 
     /// The place that the byte at this position of an array belongs to.

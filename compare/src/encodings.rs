@@ -43,7 +43,7 @@ impl Case {
         let mut data = Lent::new(&self.data, random);
         let mut array = Lent::new(&self.array, random);
         let answer = library::encode(&self.profile, &mut data, &mut array);
-        let due = Answer { number: expected.map_or(0, |refusal| refusal as u8), value: 0 };
+        let due = Answer::due(expected.map_or(Ok(0), Err));
         if answer != due {
             return Err(self.disagreement(format!("the library answers {answer}, expected {due}")));
         }
@@ -103,7 +103,7 @@ pub fn samples(random: &mut Random) -> Outcome {
     if given[0..2] != [0, 0] || given[6..8] != [0, 0] {
         return Err(m9.disagreement(format!("nodes 0 and 3 are not zero in {}", hex(&given))));
     }
-    Ok(vec![Count { what: "samples of encoding", cases: 2 }])
+    Ok(vec![Count::of("samples of encoding", 2)])
 }
 
 /// The library's arrays with the coupling taken off: the data are the first k nodes' base symbols, and each
@@ -123,7 +123,7 @@ pub fn row_codes(random: &mut Random) -> Outcome {
             cases += check_rows(&case, &base, random)?;
         }
     }
-    Ok(vec![Count { what: "row codes", cases }])
+    Ok(vec![Count::of("row codes", cases)])
 }
 
 /// Compares every row at every byte offset with Lagrange's formula over several sets of k+1 nodes.
@@ -169,7 +169,7 @@ pub fn encodings(random: &mut Random) -> Outcome {
     every_small_number(&mut tally, random)?;
     refused_in_every_order(&mut tally, random)?;
     mixed_calls(&mut tally, random)?;
-    Ok(tally.counts("encodings accepted", "encodings refused"))
+    tally.counts("encodings accepted", "encodings refused", &[1, 2, 3, 5])
 }
 
 /// Each accepted (n, k, A) with data that are zero but for one byte, at each position.

@@ -1,6 +1,7 @@
 //! The library under test: its C functions, and safe calls that lend buffers with guard bytes around them.
 
-use crate::code::Profile;
+use crate::code::{Profile, Refusal};
+use crate::download::Wanted;
 use crate::random::Random;
 
 extern "C" {
@@ -25,6 +26,32 @@ extern "C" {
         places: *mut u8,
         places_len: usize,
     ) -> u64;
+    fn whaupfield_write_bundle(
+        n: usize,
+        k: usize,
+        a: usize,
+        t: usize,
+        s: usize,
+        lost: usize,
+        scenario: u32,
+        array: *const u8,
+        array_len: usize,
+        bundle: *mut u8,
+        bundle_len: usize,
+    ) -> u64;
+    fn whaupfield_rebuild(
+        n: usize,
+        k: usize,
+        a: usize,
+        t: usize,
+        s: usize,
+        lost: usize,
+        scenario: u32,
+        bundle: *const u8,
+        bundle_len: usize,
+        column: *mut u8,
+        column_len: usize,
+    ) -> u64;
     fn whaupfield_product(a: u8, b: u8) -> u8;
     fn whaupfield_inverse(a: u8) -> u8;
 }
@@ -45,6 +72,14 @@ impl std::fmt::Display for Answer {
 impl Answer {
     fn from_word(word: u64) -> Answer {
         Answer { number: word as u8, value: word >> 8 }
+    }
+
+    /// The answer to give for this value on success, or this refusal.
+    pub fn due(expected: Result<usize, Refusal>) -> Answer {
+        match expected {
+            Ok(value) => Answer { number: 0, value: value as u64 },
+            Err(refusal) => Answer { number: refusal.number(), value: refusal.index() as u64 },
+        }
     }
 }
 
@@ -115,6 +150,23 @@ pub fn plan(profile: &Profile, lost: usize, places: &mut Lent) -> Answer {
     let Profile { n, k, rows, t, s } = *profile;
     // The pointer is to live bytes of the length given.
     let word = unsafe { whaupfield_plan(n, k, rows, t, s, lost, places.pointer(), places.length) };
+    Answer::from_word(word)
+}
+
+pub fn write_bundle(wanted: &Wanted, array: &mut Lent, bundle: &mut Lent) -> Answer {
+    let Wanted { profile: Profile { n, k, rows, t, s }, lost, scenario } = *wanted;
+    let (from, to) = (array.pointer(), bundle.pointer());
+    // Both pointers are to live bytes of the lengths given, in allocations apart.
+    let word =
+        unsafe { whaupfield_write_bundle(n, k, rows, t, s, lost, scenario, from, array.length, to, bundle.length) };
+    Answer::from_word(word)
+}
+
+pub fn rebuild(wanted: &Wanted, bundle: &mut Lent, column: &mut Lent) -> Answer {
+    let Wanted { profile: Profile { n, k, rows, t, s }, lost, scenario } = *wanted;
+    let (from, to) = (bundle.pointer(), column.pointer());
+    // Both pointers are to live bytes of the lengths given, in allocations apart.
+    let word = unsafe { whaupfield_rebuild(n, k, rows, t, s, lost, scenario, from, bundle.length, to, column.length) };
     Answer::from_word(word)
 }
 

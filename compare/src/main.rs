@@ -1,30 +1,51 @@
 //! Compares the array store's exported C functions with document 01, read here a second time. See README.md.
 //!
-//! To add a call: its declaration and wrapper in library.rs, its definition in code.rs, its kinds in a file of
-//! their own, and a line in KINDS. What the kinds share is in calls.rs.
+//! To add a call: its declaration and wrapper in library.rs, its definition in code.rs, download.rs or a file beside
+//! them, its kinds in a file of their own, and a line in KINDS. What the kinds share is in calls.rs.
 
 mod arithmetic;
+mod bundles;
 mod calls;
 mod code;
+mod download;
 mod encodings;
 mod field;
 mod library;
 mod plans;
 mod random;
+mod rebuilds;
+mod solving;
 
 use random::Random;
 
-/// How many cases of one sort agreed.
+/// How many cases of one sort agreed, and of refused calls how many with each refusal.
 pub struct Count {
     pub what: &'static str,
     pub cases: usize,
+    pub by_refusal: Vec<(u8, usize)>,
+}
+
+impl Count {
+    pub fn of(what: &'static str, cases: usize) -> Count {
+        Count { what, cases, by_refusal: Vec::new() }
+    }
+}
+
+impl std::fmt::Display for Count {
+    fn fmt(&self, to: &mut std::fmt::Formatter) -> std::fmt::Result {
+        write!(to, "{} {}", self.what, self.cases)?;
+        for (index, (number, cases)) in self.by_refusal.iter().enumerate() {
+            write!(to, "{} {cases} with {number}", if index == 0 { ":" } else { "," })?;
+        }
+        Ok(())
+    }
 }
 
 /// The counts, or the first disagreement with its whole case on one line.
 pub type Outcome = Result<Vec<Count>, String>;
 
 /// Each kind has a generator of its own, so that a new kind changes no other's cases; so new ones go last.
-const KINDS: [fn(&mut Random) -> Outcome; 9] = [
+const KINDS: [fn(&mut Random) -> Outcome; 14] = [
     arithmetic::products,
     arithmetic::inverses,
     arithmetic::samples,
@@ -34,6 +55,11 @@ const KINDS: [fn(&mut Random) -> Outcome; 9] = [
     plans::samples,
     plans::place_lists,
     plans::plans,
+    bundles::samples,
+    bundles::bundles,
+    rebuilds::samples,
+    rebuilds::recovered,
+    rebuilds::rebuilds,
 ];
 
 const SEED: u64 = 1;
@@ -47,7 +73,7 @@ fn run(seed: u64) -> Result<usize, String> {
     for (index, kind) in KINDS.iter().enumerate() {
         let own_seed = Random::new(seed).number().wrapping_add(index as u64);
         for count in kind(&mut Random::new(own_seed))? {
-            println!("{} {}", count.what, count.cases);
+            println!("{count}");
             cases += count.cases;
         }
     }

@@ -1,6 +1,6 @@
 //! The kinds about the rebuild plan: samples, lists of places, accepted and refused calls.
 
-use crate::calls::{refused_nodes_and_rows, Call, Tally, HUGE};
+use crate::calls::{numbers_in_every_order, random_profile, replace_number, small_numbers, Call, Tally};
 use crate::code::{self, Place, Profile, Refusal};
 use crate::library::{self, Answer, Lent};
 use crate::random::Random;
@@ -33,10 +33,7 @@ impl Case {
     fn call(&self, expected: Result<usize, Refusal>, random: &mut Random) -> Result<Vec<u8>, String> {
         let mut places = Lent::new(&self.places, random);
         let answer = library::plan(&self.profile, self.lost, &mut places);
-        let due = match expected {
-            Ok(count) => Answer { number: 0, value: count as u64 },
-            Err(refusal) => Answer { number: refusal as u8, value: 0 },
-        };
+        let due = Answer::due(expected);
         if answer != due {
             return Err(self.disagreement(format!("the library answers {answer}, expected {due}")));
         }
@@ -90,7 +87,7 @@ pub fn samples(random: &mut Random) -> Outcome {
             cases += 1;
         }
     }
-    Ok(vec![Count { what: "samples of plans", cases }])
+    Ok(vec![Count::of("samples of plans", cases)])
 }
 
 /// The library's plans without the document's steps: as many places as the formula says, all different, all in
@@ -107,7 +104,7 @@ pub fn place_lists(random: &mut Random) -> Outcome {
             cases += 1;
         }
     }
-    Ok(vec![Count { what: "lists of places", cases }])
+    Ok(vec![Count::of("lists of places", cases)])
 }
 
 fn check_places(case: &Case, given: &[u8]) -> Result<(), String> {
@@ -136,13 +133,7 @@ pub fn plans(random: &mut Random) -> Outcome {
     every_small_number(&mut tally, random)?;
     refused_in_every_order(&mut tally, random)?;
     mixed_calls(&mut tally, random)?;
-    Ok(tally.counts("plans accepted", "plans refused"))
-}
-
-/// An accepted t and S, often at an edge, with these accepted numbers.
-fn random_profile(n: usize, k: usize, rows: usize, random: &mut Random) -> Profile {
-    let (any_t, any_s) = (random.between(2, 255), random.between(1, 512));
-    Profile { n, k, rows, t: random.one_of(&[2, 255, any_t, any_t]), s: random.one_of(&[1, 512, any_s, any_s]) }
+    tally.counts("plans accepted", "plans refused", &[1, 2, 3, 4, 5])
 }
 
 /// Each accepted (n, k, A) and each lost node, with a buffer exactly long enough, longer, one byte too short,
@@ -169,21 +160,9 @@ fn every_length(profile: &Profile) -> [usize; 4] {
     [needed, needed - 1, 0, if accepted { needed + 1 } else { 80 }]
 }
 
-/// All small n, k and A; then all small t, S and lost nodes of accepted n, k and A.
+/// All small numbers.
 fn every_small_number(tally: &mut Tally, random: &mut Random) -> Result<(), String> {
-    let mut calls = Vec::new();
-    for n in 0..=30 {
-        for k in 0..=30 {
-            calls.extend((0..=6).map(|rows| (random_profile(n, k, rows, random), random.between(0, 30))));
-        }
-    }
-    for (n, k, rows) in [(4, 2, 2), (6, 3, 3), (8, 4, 4)] {
-        let profile = Profile { n, k, rows, t: 3, s: 2 };
-        calls.extend((0..=600).map(|t| (Profile { t, ..profile }, n - 1)));
-        calls.extend((0..=1100).map(|s| (Profile { s, ..profile }, n - 1)));
-        calls.extend((0..=600).map(|lost| (profile, lost)));
-    }
-    for (profile, lost) in calls {
+    for (profile, lost) in small_numbers(random) {
         for length in every_length(&profile) {
             tally.compare(Case::new(profile, lost, length, random), random)?;
         }
@@ -191,33 +170,14 @@ fn every_small_number(tally: &mut Tally, random: &mut Random) -> Result<(), Stri
     Ok(())
 }
 
-/// Every mixture of refusals 1, 2, 3, 4 and 5, also of none, with each way to come to each.
+/// Every mixture of refusals 1, 2, 3, 4 and 5, also of none.
 fn refused_in_every_order(tally: &mut Tally, random: &mut Random) -> Result<(), String> {
-    let mut shapes = vec![(4, 2, 2), (4, 1, 2), (6, 3, 3), (8, 4, 4), (24, 20, 4)];
-    shapes.extend(refused_nodes_and_rows());
-    for &(n, k, rows) in &shapes {
-        for t in [2, 255, 0, 1, 256, 258, 1 << 32, (1 << 63) + 2, usize::MAX] {
-            for s in [1, 512, 0, 513, 65537, 1 << 32, 1 << 63, usize::MAX] {
-                let profile = Profile { n, k, rows, t, s };
-                let mut nodes = vec![0, n.saturating_sub(1), n, n.saturating_add(1), 256, 260];
-                nodes.extend(HUGE);
-                for lost in nodes {
-                    for length in every_length(&profile) {
-                        tally.compare(Case::new(profile, lost, length, random), random)?;
-                    }
-                }
-            }
+    for (profile, lost) in numbers_in_every_order() {
+        for length in every_length(&profile) {
+            tally.compare(Case::new(profile, lost, length, random), random)?;
         }
     }
     Ok(())
-}
-
-/// A number near the edges of what is accepted, or one that a narrower type would cut down to such a number.
-fn edge(edges: &[usize], random: &mut Random) -> usize {
-    let small = random.between(0, 30);
-    let cut_down = small + random.one_of(&[1 << 8, 1 << 16, 1 << 32, 1 << 63]);
-    let (near, huge) = (random.one_of(edges), random.one_of(&HUGE));
-    random.one_of(&[near, near, small, cut_down, huge])
 }
 
 /// Accepted numbers, one or several of them replaced by others, and any length of the buffer.
@@ -225,17 +185,10 @@ fn mixed_calls(tally: &mut Tally, random: &mut Random) -> Result<(), String> {
     let accepted = code::all_accepted();
     for _ in 0..200_000 {
         let (n, k, rows) = random.one_of(&accepted);
-        let mut profile = random_profile(n, k, rows, random);
-        let mut lost = random.between(0, n - 1);
+        let given = random_profile(n, k, rows, random);
+        let (mut profile, mut lost) = (given, random.between(0, n - 1));
         for _ in 0..random.between(1, 3) {
-            match random.between(0, 9) {
-                0 => profile.n = edge(&[k, n - 1, n + 1, 24, 25, 260], random),
-                1 => profile.k = edge(&[0, 1, n - rows, n - rows + 1, n], random),
-                2 => profile.rows = edge(&[0, 1, 2, 3, 4, 5], random),
-                3 | 4 => profile.t = edge(&[0, 1, 2, 255, 256, 257], random),
-                5 | 6 => profile.s = edge(&[0, 1, 512, 513, 1024], random),
-                _ => lost = edge(&[n - 1, n, n + 1, 256, 260], random),
-            }
+            replace_number(&given, &mut profile, &mut lost, random);
         }
         let needed = every_length(&profile)[0];
         let any = random.between(0, 100);

@@ -137,13 +137,26 @@ module _ (K : Field) (c : ℕ → ℕ → K .carrier) where
       (λ i l h a b d. rw (factor-upper i l h) one-ne-zero)
       (λ i l h a b d. rw (factor-lower i l h) (c≢𝟘 i l a h))
 
+  -- The determinants: none on the diagonal, and off it that of the lower strip's constant.
+  pub pair-diagonal : (i : ℕ) → pair K (factor K c) i i ≡ 𝟙
+  pair-diagonal i =
+      ap (λ z. 𝟙 ⊕ z ⊗ z) (factor-diagonal i) ∙ ap (λ z. 𝟙 ⊕ z) (zero-mul K 𝟘) ∙ add-zero K 𝟙
+
+  pub pair-upper : (i l : ℕ) → i < l → pair K (factor K c) i l ≡ 𝟙 ⊕ c l i
+  pair-upper i l h =
+      ap₂ (λ u v. 𝟙 ⊕ u ⊗ v) (factor-upper i l h) (factor-lower l i h) ∙ ap (λ z. 𝟙 ⊕ z) (one-mul K (c l i))
+
+  pub pair-lower : (i l : ℕ) → l < i → pair K (factor K c) i l ≡ 𝟙 ⊕ c i l
+  pair-lower i l h =
+      ap₂ (λ u v. 𝟙 ⊕ u ⊗ v) (factor-lower i l h) (factor-upper l i h) ∙ ap (λ z. 𝟙 ⊕ z) (mul-one K (c i l))
+
   -- Every pair can be taken apart, where no constant is 1.
   pub pair-ne : (A : ℕ) → ((i l : ℕ) → i < A → l < i → c i l ≢ 𝟙)
       → (i l : ℕ) → i < A → l < A → pair K (factor K c) i l ≢ 𝟘
-  pair-ne A c≢𝟙 = cases {P = λ i l. i < A → l < A → 𝟙 ⊕ factor K c i l ⊗ factor K c l i ≢ 𝟘}
-      (λ i a b. rw (factor-diagonal i, zero-mul, add-zero) one-ne-zero)
-      (λ i l h a b. rw (factor-upper i l h, factor-lower l i h, one-mul) (sum-ne l i b h))
-      (λ i l h a b. rw (factor-upper l i h, factor-lower i l h, mul-one) (sum-ne i l a h))
+  pair-ne A c≢𝟙 = cases {P = λ i l. i < A → l < A → pair K (factor K c) i l ≢ 𝟘}
+      (λ i a b. rw (pair-diagonal i) one-ne-zero)
+      (λ i l h a b. rw (pair-upper i l h) (sum-ne l i b h))
+      (λ i l h a b. rw (pair-lower i l h) (sum-ne i l a h))
     where
       sum-ne : (i l : ℕ) → i < A → l < i → 𝟙 ⊕ c i l ≢ 𝟘
       sum-ne i l a h = add-ne-zero K 𝟙 (c i l) (λ e. c≢𝟙 i l a h (sym e))

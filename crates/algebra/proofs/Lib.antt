@@ -7,6 +7,7 @@ pub mod RowCode
 pub mod Coupling
 pub mod Encoding
 pub mod Rebuild
+pub mod Rows
 pub mod Needed
 pub mod Square
 pub mod Elimination

@@ -7,4 +7,5 @@ pub mod RowCode
 pub mod Coupling
 pub mod Encoding
 pub mod Rebuild
+pub mod Rows
 pub mod Square

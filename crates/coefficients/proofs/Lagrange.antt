@@ -47,7 +47,7 @@ number-above b n =
     above a d = omega arith
 
 -- A list of bytes that are not 0.
-no-zero : (m : ℕ) (f : ℕ → Byte) → ((i : ℕ) → i < m → f i ≢ bytes .𝟘) → NoZero (listed m (λ i. number (f i)))
+pub no-zero : (m : ℕ) (f : ℕ → Byte) → ((i : ℕ) → i < m → f i ≢ bytes .𝟘) → NoZero (listed m (λ i. number (f i)))
 no-zero m f n i l =
     let b : i < m = rw listed-length at l in
     rw (listed-at m (λ i. number (f i)) i 0 b) (number-above (f i) (n i b))

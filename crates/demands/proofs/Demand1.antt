@@ -3,12 +3,13 @@ use mathlib.Core.Path.{_≡_, refl, sym, ap, ap₂, _∙_}
 use mathlib.Core.Logic.{_⊎_, inl, inr}
 use mathlib.Core.Bool.{Bool, true, false, false≢true}
 use mathlib.Core.List.{List, [], _∷_, _++_, map}
-use Prim.Native.Nat.{ℕ, zero, suc, _*_, _≤_, _<_, suc-le-suc}
+use Prim.Native.Nat.{ℕ, zero, suc, _+_, _*_, _≤_, _<_, suc-le-suc}
 use native.Mathlib.Nat.{zero-lt-suc}
 use native.Mathlib.Decide.{ℕ-discrete, decLt}
 use native.Mathlib.Omega.{arith}
-use lib.ListN.{length}
+use lib.ListN.{length, getD}
 use Rattle.lists.specs.Listed.{listed}
+use Rattle.lists.specs.Put.{slice}
 use Rattle.fields.specs.Fields.{twoBytes, opening}
 use Rattle.document.specs.declared.Numbers.{Numbers}
 use Rattle.document.specs.declared.Refusal.{Refusal}
@@ -28,12 +29,29 @@ use Rattle.document.specs.declared.Answer.{Answer}
 use Rattle.document.specs.declared.Answer.the-variants.{Done, Refused}
 use Rattle.document.specs.Refusals.{numberOf, indexOf, answerNumber, answerValue, Test, tried, Decides}
 use Rattle.document.specs.Profile.{ShapeAccepted, Accepted, profileTests, profileOf}
+use Rattle.document.specs.Places.{place}
 use Rattle.document.specs.Encoding.{encoded, encodeTests, encodeOf}
 use Rattle.document.specs.declared.Profile.{Profile}
 use Rattle.document.specs.declared.Node.{Node}
 use Rattle.document.specs.declared.Recording.{Recording}
 use Rattle.document.specs.Plan.{planned, plannedAt, planTests, planOf}
-use Rattle.document.specs.Bundle.{recordingBytes, profileContent, lostContent, bundleLength, writeTests, writeOf, placeIn, recordingIn, formed, headed, placed, fresh, bundleTests}
+use Rattle.document.specs.Bundle.{
+  recordingBytes,
+  profileContent,
+  lostContent,
+  stripFieldLength,
+  bundleLength,
+  writeTests,
+  writeOf,
+  stripField,
+  placeIn,
+  recordingIn,
+  formed,
+  headed,
+  placed,
+  fresh,
+  bundleTests,
+}
 use Rattle.document.specs.Rebuild.{rebuildTests, rebuildOf}
 use Rattle.document.proofs.Decides.{
   decides-eq,
@@ -61,6 +79,8 @@ use Rattle.demands.specs.Refusals.{
   writeSentences,
   Formed,
   Headed,
+  placeRead,
+  scenarioRead,
   bundleSentences,
   rebuildSentences,
   Demand1Encode,
@@ -288,6 +308,31 @@ demand-1-plan p f x = record {
         profile-decided p
         (line refl (decides-not _ (decides-lt f (p .n))) (line refl (decides-lt (length x) _) none))
 
+-- the numbers of document 01, 17 + i(9+S), are where a field 03 starts, and what its parts are counted from
+field-is : (p : Profile) (i : ℕ) → stripField p i ≡ 17 + i * (9 + p .s)
+unfolding stripField
+field-is p i =
+    let e : stripFieldLength (p .s) ≡ 9 + p .s = omega arith in ap (λ (w : ℕ). 17 + i * w) e
+
+pub length-is : (p : Profile) (f : Node) → bundleLength p f ≡ 17 + length (planned p f) * (9 + p .s)
+unfolding stripField
+length-is p f = field-is p (length (planned p f))
+
+pub place-is : (p : Profile) (b : List ℕ) (i : ℕ) → placeIn p b i ≡ placeRead p b i
+unfolding placeIn
+place-is p b i =
+    let e : stripField p i + 3 + 1 ≡ 17 + i * (9 + p .s) + 4 = omega (arith, field-is p i) in
+    ap₂ (λ (u v : ℕ). place (getD b u 0) (getD b v 0)) (ap (λ (m : ℕ). m + 3) (field-is p i)) e
+
+pub scenario-is : (p : Profile) (b : List ℕ) (i : ℕ) → recordingIn p b i ≡ scenarioRead p b i
+unfolding recordingIn
+scenario-is p b i =
+    let e : stripField p i + 3 + 2 ≡ 17 + i * (9 + p .s) + 5 = omega (arith, field-is p i) in
+    ap (λ (u : ℕ). slice b u 4) e
+
+pub opening-is : (p : Profile) (b : List ℕ) (i : ℕ) → slice b (stripField p i) 3 ≡ slice b (17 + i * (9 + p .s)) 3
+opening-is p b i = ap (λ (u : ℕ). slice b u 3) (field-is p i)
+
 -- So does the writing of a bundle.
 pub demand-1-write : (p : Numbers) (f : ℕ) (r : Recording) (x b : List ℕ) → Demand1Write p f r x b
 unfolding writeOf writeTests writeSentences profileSentences numberOf indexOf
@@ -302,7 +347,11 @@ demand-1-write p f r x b = record {
         profile-decided p
         (line refl (decides-not _ (decides-lt f (p .n)))
         (line refl
-        (decides-not _ (decides-both _ _ (decides-eq (length x) (p .n * p .a * p .s)) (decides-eq (length b) _))) none))
+        (decides-not _
+        (decides-same _
+        (decides-both _ _ (decides-eq (length x) (p .n * p .a * p .s)) (decides-eq (length b) _))
+        (λ h. (h .0, h .1 ∙ length-is (profileOf p) (record { 0 = f })))
+        (λ h. (h .0, h .1 ∙ sym (length-is (profileOf p) (record { 0 = f })))))) none))
 
 -- ---- tables with a line for each strip
 -- two tables in a row
@@ -352,8 +401,16 @@ module _ (p : Profile) (f : Node) (r : Recording) (b : List ℕ) where
       (decides-both _ _ (decides-eq (length b) (bundleLength p f))
       (decides-both _ _ (decides-list _ _)
       (decides-both _ _ (decides-list _ _) (decides-all (length (planned p f)) _ (λ i. decides-list _ _)))))
-      (λ h. record { total = h .0; field-01 = h .1 .0; field-02 = h .1 .1 .0; fields-03 = h .1 .1 .1 })
-      (λ h. (h .total, (h .field-01, (h .field-02, h .fields-03))))
+      (λ h. record {
+        total = h .0 ∙ length-is p f;
+        field-01 = h .1 .0;
+        field-02 = h .1 .1 .0;
+        fields-03 = λ i l. sym (opening-is p b i) ∙ h .1 .1 .1 i l;
+      })
+      (λ h. (
+        h .total ∙ sym (length-is p f),
+        (h .field-01, (h .field-02, λ i l. opening-is p b i ∙ h .fields-03 i l)),
+      ))
 
   decides-headed : Decides (headed p f r b) (Headed p f r b)
   unfolding headed profileContent lostContent recordingBytes
@@ -363,15 +420,19 @@ module _ (p : Profile) (f : Node) (r : Recording) (b : List ℕ) where
 
   -- The tests of a reader decide the lines for a bundle.
   pub bundle-decided : Decided (bundleTests p f r b) (bundleSentences p f r b)
-  unfolding bundleTests bundleSentences placed fresh
+  unfolding bundleTests bundleSentences placed fresh recordingBytes
   bundle-decided =
       line refl (decides-not _ decides-formed)
       (line refl (decides-not _ decides-headed)
       (decided-append
       (decided-listed (length (planned p f)) _ _ (λ i. refl)
-      (λ i. decides-not _ (decides-place (placeIn p b i) (plannedAt p f i))))
+      (λ i. decides-not _
+      (decides-same _ (decides-place (placeIn p b i) (plannedAt p f i)) (λ e. sym (place-is p b i) ∙ e)
+      (λ e. place-is p b i ∙ e))))
       (decided-listed (length (planned p f)) _ _ (λ i. refl)
-      (λ i. decides-not _ (decides-list (recordingIn p b i) (recordingBytes r))))))
+      (λ i. decides-not _
+      (decides-same _ (decides-list (recordingIn p b i) (recordingBytes r)) (λ e. sym (scenario-is p b i) ∙ e)
+      (λ e. scenario-is p b i ∙ e))))))
 
 -- So does a rebuild.
 pub demand-1-rebuild : (p : Numbers) (f : ℕ) (r : Recording) (b y : List ℕ) → Demand1Rebuild p f r b y

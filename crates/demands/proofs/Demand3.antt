@@ -2,14 +2,12 @@
 use mathlib.Core.Path.{_≡_, refl, sym, ap, _∙_}
 use mathlib.Core.Logic.{_≢_}
 use mathlib.Core.Bool.{not}
-use mathlib.Core.List.{List, _∷_, _++_}
+use mathlib.Core.List.{List, [], _∷_, _++_}
 use Prim.Native.Nat.{ℕ, _+_, _*_, _≤_, _<_}
-use native.Mathlib.Decide.{decLt}
 use native.Mathlib.Omega.{arith}
 use lib.Dec.{eqb, ltb}
 use lib.ListN.{length, getD, drop}
 use Rattle.lists.specs.Each.{Each}
-use Rattle.lists.proofs.Each.{each-map}
 use Rattle.lists.proofs.Slice.{slice-at, slice-length}
 use Rattle.fields.specs.Fields.{twoBytes, opening}
 use Rattle.document.specs.declared.Numbers.{Numbers}
@@ -24,8 +22,8 @@ use Rattle.document.specs.declared.Answer.the-variants.{Done, Refused}
 use Rattle.document.specs.Refusals.{answerNumber, answerValue, tried}
 use Rattle.document.specs.Profile.{Accepted, profileTests, profileOf}
 use Rattle.document.specs.Places.{place}
-use Rattle.document.specs.Encoding.{start, byteAt}
-use Rattle.document.specs.Plan.{Walk, Complete, walkOf, planOver, planned, plannedAt, planBytes, planTests, planOf}
+use Rattle.document.specs.Encoding.{byteAt}
+use Rattle.document.specs.Plan.{walkOf, planOver, planned, plannedAt, priceOf, planBytes, planTests, planOf}
 use Rattle.document.specs.Bundle.{
   recordingBytes,
   profileContent,
@@ -41,16 +39,15 @@ use Rattle.document.specs.Bundle.{
 }
 use Rattle.document.specs.Rebuild.{rebuiltOf, firstStrip, rebuildTests, rebuildOf}
 use Rattle.document.proofs.Decides.{decides-lt, decides-eq}
-use Rattle.document.proofs.Bounds.{room, A>0, strip-within}
-use Rattle.document.proofs.Walks.{Sound, complete-sound, walk-complete}
-use Rattle.document.proofs.Price.{planned-price}
+use Rattle.document.proofs.Bounds.{room, A>0}
+use Rattle.document.proofs.Walks.{Sound, complete-sound, walk-complete, walk-sound}
+use Rattle.document.proofs.Price.{over-price, planned-price}
 use Rattle.document.proofs.Planned.{over-distinct, over-off-lost}
-use Rattle.document.proofs.Chosen.{planned-within}
+use Rattle.document.proofs.Bundle.{bundle-length}
 use Rattle.document.proofs.Cut.{
-  WholeStrip,
+  bundle-ext,
   cut-first,
   cut-second,
-  cut-length,
   cut-opening,
   cut-place,
   cut-recording,
@@ -67,7 +64,7 @@ use Rattle.demands.specs.Refusals.{
   bundleSentences,
   rebuildSentences,
 }
-use Rattle.demands.specs.Plan.{Demand3Plan}
+use Rattle.demands.specs.Plan.{Demand3Places, Demand3Walk, Demand3Plan}
 use Rattle.demands.specs.Rebuild.{
   Bytes,
   EncodedArray,
@@ -75,13 +72,18 @@ use Rattle.demands.specs.Rebuild.{
   columnIn,
   Fits,
   OneColumn,
-  RebuiltColumn,
-  Rebuilt,
+  WrittenBundle,
+  Demand3Write,
   CutFrom,
+  Rebuilt,
+  RebuiltColumn,
+  Demand3Rebuild,
   SameStrips,
   SameColumn,
+  SameBundle,
   SameAnswer,
   CutPasses,
+  CutColumn,
   CutRebuilds,
 }
 use Rattle.demands.proofs.Demand1.{
@@ -95,6 +97,10 @@ use Rattle.demands.proofs.Demand1.{
   done-accepted,
   done-later,
   accepted-later,
+  length-is,
+  place-is,
+  scenario-is,
+  opening-is,
   decides-formed,
   demand-1-plan,
   demand-1-write,
@@ -102,18 +108,26 @@ use Rattle.demands.proofs.Demand1.{
 }
 use Rattle.demands.proofs.Strips.{same-rebuilt, column-of, array-gives, bundle-gives, some-fits}
 
--- the walk of document 01 lists each candidate once
-sound-walk : (p : Profile) (acc : Accepted p) (f : Node) → f .0 < p .n → Sound (p .n) (p .a) f (walkOf p f)
-sound-walk p acc f h = complete-sound p acc f h (walkOf p f) (walk-complete p f)
+-- ---- the plan
+pub demand-3-places : Demand3Places
+demand-3-places p acc f h w complete =
+    let sound : Sound (p .n) (p .a) f w = complete-sound p acc f h w complete in
+    record {
+      distinct = over-distinct (p .a) (A>0 p acc) (p .k) f w sound;
+      off-lost = over-off-lost (p .a) (A>0 p acc) (p .k) f w sound;
+      price = over-price p acc f h w complete;
+    }
 
-pub demand-3-plan : (p : Numbers) (f : ℕ) (x : List ℕ) (e : answerNumber (planOf p f x .0) ≡ 0) → Demand3Plan p f x e
+pub demand-3-walk : Demand3Walk
+unfolding planned
+demand-3-walk p f = (walk-complete p f, refl)
+
+pub demand-3-plan : Demand3Plan
 unfolding planOf planSentences planned answerValue
 demand-3-plan p f x e = record {
   written = ap (λ o. o .1) done;
-  distinct = over-distinct (p .a) (A>0 _ acc) (p .k) lost walk sound;
-  off-lost = over-off-lost (p .a) (A>0 _ acc) (p .k) lost walk sound;
   number = ap (λ o. answerValue (o .0)) done;
-  price = planned-price (profileOf p) acc lost below;
+  places = demand-3-places (profileOf p) acc lost below (walkOf (profileOf p) lost) (walk-complete (profileOf p) lost);
 }
   where
     lost : Node
@@ -135,30 +149,20 @@ demand-3-plan p f x e = record {
     acc = done-accepted x p _ (planOf p f x) v (demand-1-plan p f x .refuses) is-done
 
     below : f < p .n
-    below = go (decLt f (p .n))
-      where
-        go : Dec (f < p .n) → f < p .n
-        go (yes h) = h
-        go (no h) = absurd (done-later x p _ (planOf p f x) v (demand-1-plan p f x .refuses) is-done OutOfRange (here h))
-
-    walk : Walk
-    walk = walkOf (profileOf p) lost
-
-    sound : Sound (p .n) (p .a) lost walk
-    sound = sound-walk (profileOf p) acc lost below
+    below =
+        decided _ (decides-lt f (p .n))
+        (λ m. done-later x p _ (planOf p f x) v (demand-1-plan p f x .refuses) is-done OutOfRange (here m))
 
 -- ---- the bundle and the rebuild
-module _ (p : Profile) (acc : Accepted p) (f : Node) (h : f .0 < p .n) (w : Walk)
-    (complete : Complete (p .n) (p .a) f w) where
-  pub fits : Fits p f w
-  fits = some-fits p acc f h w (complete-sound p acc f h w complete)
+pub fits : Fits
+fits p acc f h w complete = some-fits p acc f h w (complete-sound p acc f h w complete)
 
-  pub one-column : OneColumn p f w
-  one-column x y X Y alike =
-      let sound : Sound (p .n) (p .a) f w = complete-sound p acc f h w complete in
-      let strips : ℕ → List ℕ = λ i. stripOf p y (getD (planOver (p .a) (p .k) f w) i (place 0 0)) in
-      sym (column-of p acc f h w sound x X strips alike (byteAt p y) (array-gives p acc f h w sound y))
-      ∙ column-of p acc f h w sound y Y strips (λ i l. refl) (byteAt p y) (array-gives p acc f h w sound y)
+pub one-column : OneColumn
+one-column p acc f h w complete x y X Y alike =
+    let sound : Sound (p .n) (p .a) f w = complete-sound p acc f h w complete in
+    let strips : ℕ → List ℕ = λ i. stripOf p y (getD (planOver (p .a) (p .k) f w) i (place 0 0)) in
+    sym (column-of p acc f h w sound x X strips alike (byteAt p y) (array-gives p acc f h w sound y))
+    ∙ column-of p acc f h w sound y Y strips (λ i l. refl) (byteAt p y) (array-gives p acc f h w sound y)
 
 -- A rebuild that is not refused.
 module _ (p : Numbers) (f : ℕ) (r : Recording) (b y : List ℕ) (e : Rebuilt p f r b y) where
@@ -201,7 +205,7 @@ module _ (p : Numbers) (f : ℕ) (r : Recording) (b y : List ℕ) (e : Rebuilt p
       (λ m. later-lines BundleForm (later (λ n. n below) (later (λ n. n column-size) (here m))))
 
   sound : Sound (p .n) (p .a) lost (walkOf profile lost)
-  sound = sound-walk profile acc lost below
+  sound = walk-sound profile acc lost below
 
   -- the strips of the bundle are whole
   strips-whole : Bytes b → (i : ℕ) → i < length (planned profile lost)
@@ -226,13 +230,16 @@ module _ (p : Numbers) (f : ℕ) (r : Recording) (b y : List ℕ) (e : Rebuilt p
       ∙ column-of profile acc lost below (walkOf profile lost) sound x E (stripIn profile b) has _
       (bundle-gives profile acc lost below (walkOf profile lost) sound b)
 
-  pub rebuilt-column : Bytes b → RebuiltColumn p f r b y
+  rebuilt-column : Bytes b → RebuiltColumn p f r b y
   unfolding answerValue planned
   rebuilt-column small = record {
     value = ap (λ o. answerValue (o .0)) done-rebuild;
     some = some-fits profile acc lost below (walkOf profile lost) sound (stripIn profile b) (strips-whole small);
     column = column-done;
   }
+
+pub demand-3-rebuild : Demand3Rebuild
+demand-3-rebuild p f r b y small e = rebuilt-column p f r b y e small
 
 module _ (p : Numbers) (f : ℕ) where
   pub same-strips : SameStrips p f
@@ -265,98 +272,135 @@ module _ (p : Numbers) (f : ℕ) where
       ∷ bundleTests (profileOf p) (record { 0 = f }) r b)) Refused (Done 0)) e
       ∙ sym (only-answer r b z)
 
--- A bundle cut from a stored array.
-module _ (p : Numbers) (f : ℕ) (x : List ℕ) (r : Recording) (b : List ℕ) (cut : CutFrom p f x r b) where
+-- Writing a bundle that is not refused.
+module _ (p : Numbers) (f : ℕ) (r : Recording) (x b : List ℕ) (e : answerNumber (writeOf p f r x b .0) ≡ 0) where
   abbrev wanted : Profile
   wanted = profileOf p
 
   abbrev node : Node
   node = record { 0 = f }
 
-  written : writeOf p f r x (cut .lent) .0 ≡ Done (answerValue (writeOf p f r x (cut .lent) .0))
-  written = answered (writeOf p f r x (cut .lent) .0) (cut .written)
+  abbrev bundle : List ℕ
+  bundle = bundleOf wanted node r x
 
-  cut-is : b ≡ bundleOf wanted node r x
+  is-written : writeOf p f r x b .0 ≡ Done (answerValue (writeOf p f r x b .0))
+  is-written = answered (writeOf p f r x b .0) e
+
+  done-write : writeOf p f r x b ≡ (Done (length bundle), bundle)
   unfolding writeOf
-  cut-is =
-      sym (cut .leaves)
-      ∙ ap (λ o. o .1)
-      (tried-done (cut .lent) (length (bundleOf wanted node r x)) (bundleOf wanted node r x)
-      (writeTests p f x (cut .lent)) _ written)
+  done-write = tried-done b (length bundle) bundle (writeTests p f x b) _ is-written
 
   cut-accepted : Accepted wanted
   unfolding writeSentences
-  cut-accepted =
-      done-accepted (cut .lent) p _ (writeOf p f r x (cut .lent)) _ (demand-1-write p f r x (cut .lent) .refuses) written
+  cut-accepted = done-accepted b p _ (writeOf p f r x b) _ (demand-1-write p f r x b .refuses) is-written
+
+  later-write : (q : Refusal)
+      → FirstOf (record { refusal = OutOfRange; says = f < p .n → ⊥ }
+      ∷ record {
+        refusal = BufferLength;
+        says = (length x ≡ p .n * p .a * p .s) × (length b ≡ 17 + length (planned wanted node) * (9 + p .s)) → ⊥;
+      }
+      ∷ []) q → ⊥
+  unfolding writeSentences
+  later-write = done-later b p _ (writeOf p f r x b) _ (demand-1-write p f r x b .refuses) is-written
 
   cut-below : f < p .n
-  unfolding writeSentences
-  cut-below =
-      decided _ (decides-lt f (p .n))
-      (λ m. done-later (cut .lent) p _ (writeOf p f r x (cut .lent)) _ (demand-1-write p f r x (cut .lent) .refuses)
-      written OutOfRange (here m))
+  cut-below = decided _ (decides-lt f (p .n)) (λ m. later-write OutOfRange (here m))
 
-  cut-sound : Sound (p .n) (p .a) node (walkOf wanted node)
-  cut-sound = sound-walk wanted cut-accepted node cut-below
+  array-size : length x ≡ p .n * p .a * p .s
+  array-size =
+      decided _ (decides-eq (length x) (p .n * p .a * p .s))
+      (λ m. later-write BufferLength (later (λ n. n cut-below) (here (λ h. m (h .0)))))
 
-  whole : Each (WholeStrip wanted r x) (planned wanted node)
-  unfolding stripOf planned start
-  whole =
-      each-map
-      (λ q w. slice-length x (start wanted q) (p .s)
-      (rw (cut .stored .size) (strip-within wanted cut-accepted q w)))
-      (planned-within wanted cut-accepted node cut-below (walkOf wanted node) cut-sound)
+  strips-cut : (i : ℕ) → i < length (planned wanted node)
+      → stripOf wanted x (getD (planned wanted node) i (place 0 0)) ≡ stripIn wanted bundle i
+  unfolding plannedAt
+  strips-cut i l = sym (cut-strip wanted cut-accepted r x array-size node cut-below i l)
 
-  -- its strips are those of the array
-  pub strips-cut : (i : ℕ) → i < length (planned wanted node)
-      → stripIn wanted b i ≡ stripOf wanted x (plannedAt wanted node i)
-  strips-cut i l = rw cut-is (cut-strip wanted r x node whole i l)
+  bundle-size : length bundle ≡ 17 + priceOf (p .n) (p .k) (p .a) * (9 + p .s)
+  bundle-size =
+      bundle-length wanted r x cut-accepted array-size node cut-below ∙ length-is wanted node
+      ∙ ap (λ (m : ℕ). 17 + m * (9 + p .s)) (planned-price wanted cut-accepted node cut-below)
 
-  formed-cut : Formed wanted node b
+  written-bundle : WrittenBundle p f r x b
+  unfolding answerValue
+  written-bundle = record {
+    holds = left;
+    strips = rw left strips-cut;
+    size = ap length left ∙ bundle-size;
+    value = ap (λ o. answerValue (o .0)) done-write ∙ sym (ap length left);
+  }
+    where
+      left : writeOf p f r x b .1 ≡ bundle
+      left = ap (λ o. o .1) done-write
+
+  formed-cut : Formed wanted node bundle
   unfolding opening twoBytes
-  formed-cut = rw cut-is (record {
-    total = cut-length wanted r x node whole;
-    field-01 = cut-first wanted r x node whole .0;
-    field-02 = cut-second wanted r x node whole .0;
-    fields-03 = cut-opening wanted r x node whole;
-  })
+  formed-cut = record {
+    total = bundle-length wanted r x cut-accepted array-size node cut-below ∙ length-is wanted node;
+    field-01 = cut-first wanted cut-accepted r x array-size node cut-below .0;
+    field-02 = cut-second wanted cut-accepted r x array-size node cut-below .0;
+    fields-03 = λ i l. sym (opening-is wanted bundle i) ∙ cut-opening wanted cut-accepted r x array-size node cut-below i l;
+  }
 
-  headed-cut : Headed wanted node r b
+  headed-cut : Headed wanted node r bundle
   unfolding profileContent lostContent recordingBytes
-  headed-cut = rw cut-is (record {
-    field-01 = cut-first wanted r x node whole .1;
-    field-02 = cut-second wanted r x node whole .1;
-  })
+  headed-cut = record {
+    field-01 = cut-first wanted cut-accepted r x array-size node cut-below .1;
+    field-02 = cut-second wanted cut-accepted r x array-size node cut-below .1;
+  }
 
   -- none of a rebuild's refusals holds
-  unrefused : (y : List ℕ) → length y ≡ p .a * p .s → (q : Refusal) → FirstOf (rebuildSentences p f r b y) q → ⊥
-  unfolding rebuildSentences bundleSentences
+  unrefused : (y : List ℕ) → length y ≡ p .a * p .s → (q : Refusal) → FirstOf (rebuildSentences p f r bundle y) q → ⊥
+  unfolding rebuildSentences bundleSentences recordingBytes
   unrefused y size q first =
-      first-nowhere (length (planned wanted node)) _ (λ i l m. m (rw cut-is (cut-recording wanted r x node whole i l))) q
-      (first-past (length (planned wanted node)) _ (λ i l m. m (rw cut-is (cut-place wanted r x node whole i l))) q
+      first-nowhere (length (planned wanted node)) _
+      (λ i l m. m (sym (scenario-is wanted bundle i) ∙ cut-recording wanted cut-accepted r x array-size node cut-below i l)) q
+      (first-past (length (planned wanted node)) _
+      (λ i l m. m (sym (place-is wanted bundle i) ∙ cut-place wanted cut-accepted r x array-size node cut-below i l)) q
       (first-later (λ m. m headed-cut) q
       (first-later (λ m. m formed-cut) q
       (first-later (λ m. m size) q (first-later (λ m. m cut-below) q (accepted-later p cut-accepted q first))))))
 
-  passes : (y : List ℕ) → length y ≡ p .a * p .s → Rebuilt p f r b y
+  passes : (y : List ℕ) → length y ≡ p .a * p .s → Rebuilt p f r bundle y
   unfolding answerNumber
-  passes y size = go (rebuildOf p f r b y .0) refl
+  passes y size = go (rebuildOf p f r bundle y .0) refl
     where
-      go : (a : Answer) → rebuildOf p f r b y .0 ≡ a → answerNumber a ≡ 0
+      go : (a : Answer) → rebuildOf p f r bundle y .0 ≡ a → answerNumber a ≡ 0
       go (Done v) e = refl
-      go (Refused q) e = absurd (unrefused y size q (demand-1-rebuild p f r b y .refuses .given q .0 e))
+      go (Refused q) e = absurd (unrefused y size q (demand-1-rebuild p f r bundle y .refuses .given q .0 e))
 
+pub demand-3-write : Demand3Write
+demand-3-write p f r x b e = written-bundle p f r x b e
+
+-- ---- bundles cut from stored arrays
 module _ (p : Numbers) (f : ℕ) where
+  -- what is cut is the bundle of the array
+  cut-is : (x : List ℕ) (r : Recording) (b : List ℕ) → CutFrom p f x r b
+      → b ≡ bundleOf (profileOf p) (record { 0 = f }) r x
+  cut-is x r b cut =
+      sym (cut .leaves) ∙ written-bundle p f r x (cut .lent) (cut .not-refused) .holds
+
+  cut-strips : (x : List ℕ) (r : Recording) (b : List ℕ) → CutFrom p f x r b
+      → HasStrips (profileOf p) (planned (profileOf p) (record { 0 = f })) x (stripIn (profileOf p) b)
+  cut-strips x r b cut = rw (cut-is x r b cut) (strips-cut p f r x (cut .lent) (cut .not-refused))
+
   pub cut-passes : CutPasses p f
-  cut-passes x r b y cut size = passes p f x r b cut y size
+  cut-passes x r b y cut size = rw (cut-is x r b cut) (passes p f r x (cut .lent) (cut .not-refused) y size)
 
   pub same-column : SameColumn p f
-  unfolding plannedAt
   same-column x y alike r u b c X Y v w d e D E =
-      same-strips p f v w b c d e D E
-      (λ i l. strips-cut p f x r b X i l ∙ alike i l ∙ sym (strips-cut p f y u c Y i l))
+      same-strips p f v w b c d e D E (λ i l. sym (cut-strips x r b X i l) ∙ alike i l ∙ cut-strips y u c Y i l)
+
+  pub same-bundle : SameBundle p f
+  same-bundle x y alike r b c X Y =
+      cut-is x r b X
+      ∙ bundle-ext (profileOf p) (record { 0 = f }) r x y alike
+      ∙ sym (cut-is y r c Y)
+
+  pub cut-column : CutColumn p f
+  cut-column x r u b y cut d z Z alike =
+      column-done p f u b y d z Z (λ i l. sym (alike i l) ∙ cut-strips x r b cut i l)
 
   pub cut-rebuilds : CutRebuilds p f
-  unfolding plannedAt
-  cut-rebuilds x r b y cut E d =
-      column-done p f r b y d x E (λ i l. sym (strips-cut p f x r b cut i l))
+  cut-rebuilds x r u b y cut E d = cut-column x r u b y cut d x E (λ i l. refl)

@@ -2,34 +2,59 @@
 -- steps in document 01 list, in that order: distinct places, none on the dead drive. Their number is the one the plan,
 -- where not refused, answers with, and it equals the formula there.'
 --
--- Demand3Plan p f x : planning the rebuild of node f into x
--- Shown for all p, f and x in proofs/Demand3.antt: demand-3-plan.
+-- PlannedPlaces p f qs : the places qs are distinct, none is on f, and their number is the formula's
+-- Demand3Places        : so they are over any walk that goes over each candidate once
+-- Demand3Walk          : document 01's walk is one such, and `planned` is the plan over it
+-- NamedPlaces p f x    : what planning the rebuild of node f into x leaves and answers
+-- Demand3Plan          : where planning is not refused, it names the planned places
+-- Shown in proofs/Demand3.antt: demand-3-places, demand-3-walk, demand-3-plan.
 --
--- `planned` in document/specs/Plan.antt is the list of the steps.
+-- `planOver` in document/specs/Plan.antt is the list of the steps, over a walk: the nodes that each step goes over.
 use mathlib.Core.Path.{_≡_}
 use mathlib.Core.Logic.{_≢_}
 use mathlib.Core.List.{List, _++_}
-use Prim.Native.Nat.{ℕ, _*_}
+use Prim.Native.Nat.{ℕ, _*_, _<_}
 use lib.ListN.{length, drop}
 use Rattle.lists.specs.Each.{Each, Distinct}
 use Rattle.document.specs.declared.Numbers.{Numbers}
+use Rattle.document.specs.declared.Profile.{Profile}
+use Rattle.document.specs.declared.Node.{Node}
 use Rattle.document.specs.declared.Place.{Place}
 use Rattle.document.specs.Refusals.{answerNumber, answerValue}
-use Rattle.document.specs.Profile.{profileOf}
-use Rattle.document.specs.Plan.{planned, priceOf, planBytes, planOf}
+use Rattle.document.specs.Profile.{Accepted, profileOf}
+use Rattle.document.specs.Plan.{Walk, Complete, walkOf, planOver, planned, priceOf, planBytes, planOf}
+
+pub record PlannedPlaces (p : Profile) (f : Node) (qs : List Place) : Type 0 where
+  -- 'distinct places'
+  pub distinct : Distinct qs
+  -- 'none on the dead drive'
+  pub off-lost : Each (λ q. q .node .0 ≢ f .0) qs
+  -- 'Their number .. equals the formula there'
+  pub price : length qs ≡ priceOf (p .n) (p .k) (p .a)
+
+-- 'For every accepted profile .. and every dead drive'
+abbrev pub Demand3Places : Type 0
+Demand3Places =
+    (p : Profile) → Accepted p → (f : Node) → f .0 < p .n → (w : Walk) → Complete (p .n) (p .a) f w
+    → PlannedPlaces p f (planOver (p .a) (p .k) f w)
+
+abbrev pub Demand3Walk : Type 0
+Demand3Walk =
+    (p : Profile) (f : Node)
+    → Complete (p .n) (p .a) f (walkOf p f) × (planned p f ≡ planOver (p .a) (p .k) f (walkOf p f))
 
 module _ (p : Numbers) (f : ℕ) (x : List ℕ) where
   abbrev plan : List Place
   plan = planned (profileOf p) (record { 0 = f })
 
-  pub record Demand3Plan (accepted : answerNumber (planOf p f x .0) ≡ 0) : Type 0 where
+  pub record NamedPlaces : Type 0 where
     -- 'the plan names the places': two bytes each, and 'bytes past the plan stay'
     pub written : planOf p f x .1 ≡ planBytes plan ++ drop (2 * length plan) x
-    -- 'distinct places'
-    pub distinct : Distinct plan
-    -- 'none on the dead drive'
-    pub off-lost : Each (λ q. q .node .0 ≢ f) plan
     -- 'Their number is the one the plan .. answers with'
     pub number : answerValue (planOf p f x .0) ≡ length plan
-    -- 'and it equals the formula there'
-    pub price : length plan ≡ priceOf (p .n) (p .k) (p .a)
+    -- the facts above, for these numbers
+    pub places : PlannedPlaces (profileOf p) (record { 0 = f }) plan
+
+-- 'the plan, where not refused'
+abbrev pub Demand3Plan : Type 0
+Demand3Plan = (p : Numbers) (f : ℕ) (x : List ℕ) → answerNumber (planOf p f x .0) ≡ 0 → NamedPlaces p f x

@@ -4,26 +4,31 @@
 -- Bytes x               : each entry of x is a byte
 -- EncodedArray p x      : x is an encoded array
 -- HasStrips p qs x v    : x has the strip v i at place i of qs, for each of the places qs
--- columnIn p x j        : the column of node j in the array x
 -- AlikeAt p qs x y      : the arrays x and y are alike at the places qs
--- Fits                  : any bytes at the planned places stand in some encoded array
--- OneColumn             : encoded arrays alike at the planned places have the same lost column
+-- columnIn p x j        : the column of node j in the array x
+-- CutFrom p f x r b     : b is a bundle cut from the stored array x
+-- WrittenBundle p f r x b : what cutting a bundle from x, written into b, leaves and answers
 -- Rebuilt p f r b y     : a rebuild of node f from the bundle b, into y, is not refused
 -- RebuiltColumn p f r b y : some encoded array has the strips of b, and the rebuilt column is that of each such array
--- CutFrom p f x r b     : b is a bundle cut from the stored array x
--- SameStrips            : bundles with equal strips give equal columns
--- SameColumn            : so do bundles cut from arrays alike at the planned places
--- SameAnswer            : equal bundles, wanted numbers and lengths give the same answer
--- CutPasses             : a bundle cut for the wanted numbers is not refused
--- CutRebuilds           : cut from an encoded array, it gives the lost column back
--- Shown in proofs/Demand3.antt: fits and one-column for every accepted profile, lost node and complete walk;
--- rebuilt-column, same-strips, same-column, same-answer, cut-passes and cut-rebuilds for any numbers.
+--
+-- The statements, shown in proofs/Demand3.antt under the name beside each:
+-- Fits                  : any bytes at the planned places stand in some encoded array              fits
+-- OneColumn             : encoded arrays alike at the planned places have the same lost column     one-column
+-- Demand3Write          : writing a bundle that is not refused                                     demand-3-write
+-- Demand3Rebuild        : a rebuild that is not refused                                            demand-3-rebuild
+-- SameStrips            : bundles with equal strips give equal columns                             same-strips
+-- SameColumn            : so do bundles cut from arrays alike at the planned places                same-column
+-- SameBundle            : for one recording, such arrays give one bundle                           same-bundle
+-- SameAnswer            : equal bundles, wanted numbers and lengths give the same answer           same-answer
+-- CutPasses             : a bundle cut for the wanted numbers is not refused                       cut-passes
+-- CutColumn             : the column rebuilt from a bundle cut from any stored array               cut-column
+-- CutRebuilds           : from an encoded array, the rebuild gives the lost column back            cut-rebuilds
 --
 -- planned p f are the planned places, stripOf p x q is the strip at the place q of the array x, stripIn p b i the strip i
 -- of the bundle b: document/specs/Plan.antt and Bundle.antt.
 use mathlib.Core.Path.{_≡_}
 use mathlib.Core.List.{List}
-use Prim.Native.Nat.{ℕ, _*_, _<_}
+use Prim.Native.Nat.{ℕ, _+_, _*_, _<_}
 use lib.ListN.{length, getD}
 use Rattle.lists.specs.Put.{slice}
 use Rattle.document.specs.declared.Numbers.{Numbers}
@@ -32,11 +37,11 @@ use Rattle.document.specs.declared.Node.{Node}
 use Rattle.document.specs.declared.Place.{Place}
 use Rattle.document.specs.declared.Recording.{Recording}
 use Rattle.document.specs.Refusals.{answerNumber, answerValue}
-use Rattle.document.specs.Profile.{profileOf}
+use Rattle.document.specs.Profile.{Accepted, profileOf}
 use Rattle.document.specs.Places.{place}
 use Rattle.document.specs.Encoding.{Stored}
-use Rattle.document.specs.Plan.{Walk, planOver, planned}
-use Rattle.document.specs.Bundle.{stripOf, writeOf, stripIn}
+use Rattle.document.specs.Plan.{Walk, Complete, planOver, planned, priceOf}
+use Rattle.document.specs.Bundle.{stripOf, bundleOf, writeOf, stripIn}
 use Rattle.document.specs.Rebuild.{rebuildOf}
 use Rattle.demands.specs.Encoding.{DocumentArray}
 
@@ -64,67 +69,115 @@ module _ (p : Profile) (qs : List Place) where
 abbrev pub columnIn : Profile → List ℕ → ℕ → List ℕ
 columnIn p x j = slice x (j * p .a * p .s) (p .a * p .s)
 
--- 'For every accepted profile .. and every dead drive': the two facts that a rebuild rests on, over any walk that goes
--- over each candidate once; `planned` is the list over document 01's walk.
+-- ---- 'For every accepted profile .. and every dead drive': what a rebuild rests on, over any walk that goes over each
+-- candidate once
 module _ (p : Profile) (f : Node) (w : Walk) where
   abbrev places : List Place
   places = planOver (p .a) (p .k) f w
 
   -- 'Whatever bytes stand at those places, some encoded array has them'
-  abbrev pub Fits : Type 0
-  Fits =
+  abbrev FitsOver : Type 0
+  FitsOver =
       (strips : ℕ → List ℕ) → ((i : ℕ) → i < length places → (length (strips i) ≡ p .s) × Bytes (strips i))
       → (x : List ℕ) × EncodedArray p x × HasStrips p places x strips
 
   -- 'the one every such array has on that drive'
-  abbrev pub OneColumn : Type 0
-  OneColumn =
+  abbrev OneColumnOver : Type 0
+  OneColumnOver =
       (x y : List ℕ) → EncodedArray p x → EncodedArray p y → AlikeAt p places x y
       → columnIn p x (f .0) ≡ columnIn p y (f .0)
 
--- A rebuild that is not refused. 'The rebuilt column is the AS bytes that a rebuild not refused leaves in the buffer lent
--- for writing.'
+abbrev pub Fits : Type 0
+Fits =
+    (p : Profile) → Accepted p → (f : Node) → f .0 < p .n → (w : Walk) → Complete (p .n) (p .a) f w → FitsOver p f w
+
+abbrev pub OneColumn : Type 0
+OneColumn =
+    (p : Profile) → Accepted p → (f : Node) → f .0 < p .n → (w : Walk) → Complete (p .n) (p .a) f w
+    → OneColumnOver p f w
+
+-- ---- the bundle
+module _ (p : Numbers) (f : ℕ) (r : Recording) (x b : List ℕ) where
+  abbrev written : List ℕ
+  written = writeOf p f r x b .1
+
+  pub record WrittenBundle : Type 0 where
+    -- the fields of document 01, 'once a planned place in plan order'
+    pub holds : written ≡ bundleOf (profileOf p) (record { 0 = f }) r x
+    -- 'it takes its strips from the planned places'
+    pub strips : HasStrips (profileOf p) (planned (profileOf p) (record { 0 = f })) x (stripIn (profileOf p) written)
+    -- 'Length: 17 + P(9+S), P the number of places.'
+    pub size : length written ≡ 17 + priceOf (p .n) (p .k) (p .a) * (9 + p .s)
+    -- 'On success the answer is 0, with .. the length for a bundle'
+    pub value : answerValue (writeOf p f r x b .0) ≡ length written
+
+abbrev pub Demand3Write : Type 0
+Demand3Write =
+    (p : Numbers) (f : ℕ) (r : Recording) (x b : List ℕ) → answerNumber (writeOf p f r x b .0) ≡ 0
+    → WrittenBundle p f r x b
+
+-- 'A bundle cut from a stored array is what writing a bundle leaves'.
+pub record CutFrom (p : Numbers) (f : ℕ) (x : List ℕ) (r : Recording) (b : List ℕ) : Type 0 where
+  pub lent : List ℕ
+  pub stored : Stored (profileOf p) x
+  pub not-refused : answerNumber (writeOf p f r x lent .0) ≡ 0
+  pub leaves : writeOf p f r x lent .1 ≡ b
+
+-- ---- the rebuild
+-- 'The rebuilt column is the AS bytes that a rebuild not refused leaves in the buffer lent for writing.'
+abbrev pub Rebuilt : Numbers → ℕ → Recording → List ℕ → List ℕ → Type 0
+Rebuilt p f r b y = answerNumber (rebuildOf p f r b y .0) ≡ 0
+
 module _ (p : Numbers) (f : ℕ) (r : Recording) (b y : List ℕ) where
+  abbrev profile : Profile
+  profile = profileOf p
+
+  abbrev plan : List Place
+  plan = planned profile (record { 0 = f })
+
   pub record RebuiltColumn : Type 0 where
     -- 'On success the answer is 0, with .. 0 otherwise.'
     pub value : answerValue (rebuildOf p f r b y .0) ≡ 0
     -- 'some encoded array has them'
-    pub some : (x : List ℕ) × EncodedArray (profileOf p) x
-        × HasStrips (profileOf p) (planned (profileOf p) (record { 0 = f })) x (stripIn (profileOf p) b)
+    pub some : (x : List ℕ) × EncodedArray profile x × HasStrips profile plan x (stripIn profile b)
     -- 'and the rebuilt column is the one every such array has on that drive'
-    pub column : (x : List ℕ) → EncodedArray (profileOf p) x
-        → HasStrips (profileOf p) (planned (profileOf p) (record { 0 = f })) x (stripIn (profileOf p) b)
-        → rebuildOf p f r b y .1 ≡ columnIn (profileOf p) x f
+    pub column : (x : List ℕ) → EncodedArray profile x → HasStrips profile plan x (stripIn profile b)
+        → rebuildOf p f r b y .1 ≡ columnIn profile x f
 
+abbrev pub Demand3Rebuild : Type 0
+Demand3Rebuild =
+    (p : Numbers) (f : ℕ) (r : Recording) (b y : List ℕ) → Bytes b → Rebuilt p f r b y → RebuiltColumn p f r b y
+
+-- ---- two rebuilds, and rebuilds from what was cut
 module _ (p : Numbers) (f : ℕ) where
-  -- A rebuild that is not refused.
-  abbrev pub Rebuilt : Recording → List ℕ → List ℕ → Type 0
-  Rebuilt r b y = answerNumber (rebuildOf p f r b y .0) ≡ 0
+  abbrev wanted : Profile
+  wanted = profileOf p
 
-  -- The bundle b is cut from the stored array x: writing it, into a lent buffer, was not refused and left b.
-  pub record CutFrom (x : List ℕ) (r : Recording) (b : List ℕ) : Type 0 where
-    pub lent : List ℕ
-    pub stored : Stored (profileOf p) x
-    pub written : answerNumber (writeOf p f r x lent .0) ≡ 0
-    pub leaves : writeOf p f r x lent .1 ≡ b
+  abbrev planOf : List Place
+  planOf = planned wanted (record { 0 = f })
 
   -- 'No byte elsewhere, old or new, changes the rebuild.'
   abbrev pub SameStrips : Type 0
   SameStrips =
-      (r u : Recording) (b c y z : List ℕ) → Rebuilt r b y → Rebuilt u c z
-      → ((i : ℕ) → i < length (planned (profileOf p) (record { 0 = f }))
-      → stripIn (profileOf p) b i ≡ stripIn (profileOf p) c i)
+      (r u : Recording) (b c y z : List ℕ) → Rebuilt p f r b y → Rebuilt p f u c z
+      → ((i : ℕ) → i < length planOf → stripIn wanted b i ≡ stripIn wanted c i)
       → rebuildOf p f r b y .1 ≡ rebuildOf p f u c z .1
 
   -- 'Take any two stored arrays alike at the planned places, whatever they hold elsewhere: rebuilds from bundles cut
   -- from them, where not refused, write the same column, whatever scenarios they are for and whatever the buffers lent
-  -- for writing held.'
+  -- for writing held.' Bundles cut for another profile or node than the wanted ones get 6 or 7.
   abbrev pub SameColumn : Type 0
   SameColumn =
-      (x y : List ℕ) → AlikeAt (profileOf p) (planned (profileOf p) (record { 0 = f })) x y
-      → (r u : Recording) (b c : List ℕ) → CutFrom x r b → CutFrom y u c
-      → (v w : Recording) (d e : List ℕ) → Rebuilt v b d → Rebuilt w c e
+      (x y : List ℕ) → AlikeAt wanted planOf x y
+      → (r u : Recording) (b c : List ℕ) → CutFrom p f x r b → CutFrom p f y u c
+      → (v w : Recording) (d e : List ℕ) → Rebuilt p f v b d → Rebuilt p f w c e
       → rebuildOf p f v b d .1 ≡ rebuildOf p f w c e .1
+
+  -- For one recording, such arrays give one bundle: no byte elsewhere turns a rebuild into a refusal.
+  abbrev pub SameBundle : Type 0
+  SameBundle =
+      (x y : List ℕ) → AlikeAt wanted planOf x y → (r : Recording) (b c : List ℕ) → CutFrom p f x r b
+      → CutFrom p f y r c → b ≡ c
 
   -- 'Any two rebuilds given equal bundles, the same wanted numbers and buffers of equal length give the same answer,
   -- number and index, refused or not.'
@@ -134,10 +187,17 @@ module _ (p : Numbers) (f : ℕ) where
 
   -- A bundle cut for the wanted numbers from any stored array is not refused.
   abbrev pub CutPasses : Type 0
-  CutPasses = (x : List ℕ) (r : Recording) (b y : List ℕ) → CutFrom x r b → length y ≡ p .a * p .s → Rebuilt r b y
+  CutPasses =
+      (x : List ℕ) (r : Recording) (b y : List ℕ) → CutFrom p f x r b → length y ≡ p .a * p .s → Rebuilt p f r b y
 
-  -- From an encoded array it gives the lost column back.
+  -- Cut from any stored array: the column is that of every encoded array alike at the planned places.
+  abbrev pub CutColumn : Type 0
+  CutColumn =
+      (x : List ℕ) (r u : Recording) (b y : List ℕ) → CutFrom p f x r b → Rebuilt p f u b y
+      → (z : List ℕ) → EncodedArray wanted z → AlikeAt wanted planOf x z → rebuildOf p f u b y .1 ≡ columnIn wanted z f
+
+  -- Cut from an encoded array, it gives the lost column back.
   abbrev pub CutRebuilds : Type 0
   CutRebuilds =
-      (x : List ℕ) (r : Recording) (b y : List ℕ) → CutFrom x r b → EncodedArray (profileOf p) x → Rebuilt r b y
-      → rebuildOf p f r b y .1 ≡ columnIn (profileOf p) x f
+      (x : List ℕ) (r u : Recording) (b y : List ℕ) → CutFrom p f x r b → EncodedArray wanted x → Rebuilt p f u b y
+      → rebuildOf p f u b y .1 ≡ columnIn wanted x f

@@ -11,6 +11,7 @@
 -- writeSentences p f x b              : the table for cutting a bundle from the array x, written into b
 -- Formed p f b                        : the bundle b has the length, the tags and the field lengths that are wanted
 -- Headed p f r b                      : its fields 01 and 02 have the content that is wanted
+-- placeRead p b i, scenarioRead p b i : the place and the scenario number of strip i in the bundle b
 -- bundleSentences p f r b             : the lines for a bundle to read, where the profile p, the lost node f and the
 --                                       recording r are wanted
 -- rebuildSentences p f r b y          : the table for rebuilding node f from the bundle b into y
@@ -27,14 +28,15 @@ use mathlib.Core.Path.{_≡_}
 use mathlib.Core.Logic.{_↔_, _≢_, _⊎_}
 use mathlib.Core.List.{List, [], _∷_, _++_, map}
 use Prim.Native.Nat.{ℕ, _+_, _*_, _≤_, _<_}
-use lib.ListN.{length}
+use lib.ListN.{length, getD}
 use Rattle.lists.specs.Listed.{listed}
 use Rattle.lists.specs.Put.{slice}
-use Rattle.fields.specs.Fields.{twoBytes, fourBytes, openingLength}
+use Rattle.fields.specs.Fields.{twoBytes, fourBytes}
 use Rattle.document.specs.declared.Numbers.{Numbers}
 use Rattle.document.specs.declared.Refusal.{Refusal}
 use Rattle.document.specs.declared.Profile.{Profile}
 use Rattle.document.specs.declared.Node.{Node}
+use Rattle.document.specs.declared.Place.{Place}
 use Rattle.document.specs.declared.Recording.{Recording}
 use Rattle.document.specs.declared.Refusal.the-variants.{
   Shape,
@@ -51,17 +53,10 @@ use Rattle.document.specs.declared.Answer.{Answer}
 use Rattle.document.specs.declared.Answer.the-variants.{Refused}
 use Rattle.document.specs.Refusals.{numberOf, indexOf, Test, Decides}
 use Rattle.document.specs.Profile.{ShapeAccepted, profileOf}
+use Rattle.document.specs.Places.{place}
 use Rattle.document.specs.Encoding.{encodeTests, encodeOf}
 use Rattle.document.specs.Plan.{planned, plannedAt, planTests, planOf}
-use Rattle.document.specs.Bundle.{
-  recordingBytes,
-  bundleLength,
-  writeTests,
-  writeOf,
-  stripField,
-  placeIn,
-  recordingIn,
-}
+use Rattle.document.specs.Bundle.{writeTests, writeOf}
 use Rattle.document.specs.Rebuild.{rebuildTests, rebuildOf}
 
 -- One line of the table 'Refusals by number, in the order they are tried', for one call.
@@ -117,35 +112,43 @@ planSentences p f x =
     }
     ∷ [])
 
--- 5: 'a lent buffer .. has the wrong length': a stored array has nAS bytes, a bundle its own length.
+-- 5: 'a lent buffer .. has the wrong length': a stored array has nAS bytes, a bundle 17 + P(9+S).
 unfoldable pub writeSentences : Numbers → ℕ → List ℕ → List ℕ → List Sentence
 writeSentences p f x b =
     profileSentences p
     ++ (record { refusal = OutOfRange; says = f < p .n → ⊥ }
     ∷ record {
       refusal = BufferLength;
-      says = (length x ≡ p .n * p .a * p .s) × (length b ≡ bundleLength (profileOf p) (record { 0 = f })) → ⊥;
+      says = (length x ≡ p .n * p .a * p .s)
+          × (length b ≡ 17 + length (planned (profileOf p) (record { 0 = f })) * (9 + p .s))
+          → ⊥;
     }
     ∷ [])
 
 -- 'bundle's total length, tags or field lengths': a field opens with a one-byte tag and a two-byte length.
 pub record Formed (p : Profile) (f : Node) (b : List ℕ) : Type 0 where
   -- 'Length: 17 + P(9+S), P the number of places.'
-  pub total : length b ≡ bundleLength p f
+  pub total : length b ≡ 17 + length (planned p f) * (9 + p .s)
   -- '01, length 6'
-  pub field-01 : slice b 0 openingLength ≡ 1 ∷ 0 ∷ 6 ∷ []
+  pub field-01 : slice b 0 3 ≡ 1 ∷ 0 ∷ 6 ∷ []
   -- '02, length 5'
-  pub field-02 : slice b 9 openingLength ≡ 2 ∷ 0 ∷ 5 ∷ []
+  pub field-02 : slice b 9 3 ≡ 2 ∷ 0 ∷ 5 ∷ []
   -- '03, length 6+S, once a planned place'
-  pub fields-03 : (i : ℕ) → i < length (planned p f)
-      → slice b (stripField p i) openingLength ≡ 3 ∷ twoBytes (6 + p .s)
+  pub fields-03 : (i : ℕ) → i < length (planned p f) → slice b (17 + i * (9 + p .s)) 3 ≡ 3 ∷ twoBytes (6 + p .s)
 
 -- 'content of field 01 or 02'
 pub record Headed (p : Profile) (f : Node) (r : Recording) (b : List ℕ) : Type 0 where
   -- 'n, k, A, t, S in two bytes'
   pub field-01 : slice b 3 6 ≡ p .n ∷ p .k ∷ p .a ∷ p .t ∷ twoBytes (p .s)
-  -- 'lost node, scenario number in four bytes'
+  -- 'lost node, scenario number in four bytes': by its type below 2^32
   pub field-02 : slice b 12 5 ≡ f .0 ∷ fourBytes (r .scenario)
+
+-- 'node, row, scenario number, strip': what the field 03 of strip i says of it, past its tag and length.
+abbrev pub placeRead : Profile → List ℕ → ℕ → Place
+placeRead p b i = place (getD b (17 + i * (9 + p .s) + 3) 0) (getD b (17 + i * (9 + p .s) + 4) 0)
+
+abbrev pub scenarioRead : Profile → List ℕ → ℕ → List ℕ
+scenarioRead p b i = slice b (17 + i * (9 + p .s) + 5) 4
 
 -- 6: '.. differ from those of the wanted profile and node'. 7: '.. differs from what is wanted'. 8: 'some strip's place
 -- differs from the plan's', with its index. 9: 'some strip's scenario differs from the wanted one', with its index.
@@ -154,8 +157,9 @@ unfoldable pub bundleSentences : Profile → Node → Recording → List ℕ →
 bundleSentences p f r b =
     record { refusal = BundleForm; says = Formed p f b → ⊥ }
     ∷ record { refusal = BundleHead; says = Headed p f r b → ⊥ }
-    ∷ (listed (length (planned p f)) (λ i. record { refusal = Misplaced i; says = placeIn p b i ≢ plannedAt p f i })
-    ++ listed (length (planned p f)) (λ i. record { refusal = Stale i; says = recordingIn p b i ≢ recordingBytes r }))
+    ∷ (listed (length (planned p f)) (λ i. record { refusal = Misplaced i; says = placeRead p b i ≢ plannedAt p f i })
+    ++ listed (length (planned p f))
+    (λ i. record { refusal = Stale i; says = scenarioRead p b i ≢ fourBytes (r .scenario) }))
 
 -- 5: a column has AS bytes; 'other than the bundle to read'.
 unfoldable pub rebuildSentences : Numbers → ℕ → Recording → List ℕ → List ℕ → List Sentence

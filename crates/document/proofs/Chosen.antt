@@ -45,11 +45,11 @@ use Rattle.document.specs.declared.Node.{Node}
 use Rattle.document.specs.declared.Place.{Place}
 use Rattle.document.specs.Profile.{Accepted}
 use Rattle.document.specs.Places.{place, partnerOf, samePlace, Within}
-use Rattle.document.specs.Plan.{isOwn, rowAt, pairsAt, Walk, stepTwo, stepThree, chosenOver, planOver}
+use Rattle.document.specs.Plan.{isOwn, rowAt, pairsAt, Walk, walkOf, stepTwo, stepThree, chosenOver, planOver, planned}
 use Rattle.document.specs.Rebuild.{positionOf}
 use Rattle.document.proofs.Decides.{decides-false, decides-place}
 use Rattle.document.proofs.Bounds.{A>0, group-within, partner-within}
-use Rattle.document.proofs.Walks.{Sound, nodes-enough}
+use Rattle.document.proofs.Walks.{Sound, walk-sound, nodes-enough}
 use Rattle.document.proofs.Planned.{
   own-is,
   each-pairs,
@@ -273,3 +273,8 @@ module _ (p : Profile) (acc : Accepted p) (f : Node) (h : f .0 < p .n) (w : Walk
       (each-append (each-image (rowAt A f) row-within (each-left (stepTwo k w) (stepThree k w) nodes-below))
       (each-pairs A (A>0 p acc) k f (λ j l. (row-within j l, partner-within p acc (rowAt A f j) (row-within j l)))
       (each-right (stepTwo k w) (stepThree k w) nodes-below)))
+
+-- over document 01's walk
+pub plan-within : (p : Profile) → Accepted p → (f : Node) → f .0 < p .n → Each (Within p) (planned p f)
+unfolding planned
+plan-within p acc f h = planned-within p acc f h (walkOf p f) (walk-sound p acc f h)

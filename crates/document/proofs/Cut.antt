@@ -7,16 +7,19 @@ use native.Mathlib.Omega.{arith}
 use lib.ListN.{length, getD, take, length-append}
 use lib.Seq.{take-length}
 use Rattle.lists.specs.Put.{slice}
-use Rattle.lists.proofs.Slice.{slice-left, slice-right, slice-at}
+use Rattle.lists.proofs.Slice.{slice-left, slice-right, slice-length, slice-at}
 use Rattle.lists.specs.Each.{Each, none, also}
-use Rattle.lists.proofs.Each.{each-at}
+use Rattle.lists.proofs.Each.{each-at, each-from, each-map}
 use Rattle.fields.specs.Fields.{twoBytes, fourBytes, opening, openingLength, fieldOf}
+use Rattle.fields.proofs.Fields.{field-length}
 use Rattle.document.specs.declared.Profile.{Profile}
 use Rattle.document.specs.declared.Node.{Node}
 use Rattle.document.specs.declared.Place.{Place}
 use Rattle.document.specs.declared.Recording.{Recording}
-use Rattle.document.specs.Places.{place}
-use Rattle.document.specs.Plan.{planned, plannedAt}
+use Rattle.document.specs.Places.{place, Within}
+use Rattle.document.specs.Profile.{Accepted}
+use Rattle.document.specs.Encoding.{start}
+use Rattle.document.specs.Plan.{walkOf, planned, plannedAt}
 use Rattle.document.specs.Bundle.{
   recordingBytes,
   recordingLength,
@@ -36,44 +39,34 @@ use Rattle.document.specs.Bundle.{
   recordingIn,
   stripIn,
 }
+use Rattle.document.proofs.Chosen.{plan-within}
+use Rattle.document.proofs.Bundle.{fieldAt, strip-length, content-length, strip-field-length, profile-length, lost-length}
 
-module _ (p : Profile) (r : Recording) (x : List ℕ) where
-  -- the field of the place q, with the strip that x has there
+module _ (p : Profile) (acc : Accepted p) (r : Recording) (x : List ℕ) (size : length x ≡ p .n * p .a * p .s) where
   abbrev field : Place → List ℕ
-  field q = fieldOf 3 (stripContent q r (stripOf p x q))
+  field = fieldAt p r x
 
-  -- the strip of q is whole
-  abbrev pub WholeStrip : Place → Type 0
-  WholeStrip q = length (stripOf p x q) ≡ p .s
-
-  field-length : (q : Place) → WholeStrip q → length (field q) ≡ stripFieldLength (p .s)
-  unfolding fieldOf opening twoBytes stripContent recordingBytes fourBytes
-  field-length q h = omega (arith, h)
-
-  pub fields-length : {qs : List Place} → Each WholeStrip qs
-      → length (stripFields p r x qs) ≡ length qs * stripFieldLength (p .s)
-  unfolding stripFields
-  fields-length none = sym (zero-mul (stripFieldLength (p .s)))
-  fields-length (also {x = q} {xs = qs} h hs) =
-      length-append (field q) (stripFields p r x qs)
-      ∙ ap₂ _+_ (field-length q h) (fields-length hs)
-      ∙ omega (arith, suc-mul (length qs) (stripFieldLength (p .s)))
+  field-size : (q : Place) → Within p q → length (field q) ≡ stripFieldLength (p .s)
+  field-size = strip-field-length p r x acc size
 
   -- a part of field i
-  fields-at : {qs : List Place} → Each WholeStrip qs → (i o m : ℕ) → i < length qs → o + m ≤ stripFieldLength (p .s)
+  fields-at : {qs : List Place} → Each (Within p) qs → (i o m : ℕ) → i < length qs → o + m ≤ stripFieldLength (p .s)
       → slice (stripFields p r x qs) (i * stripFieldLength (p .s) + o) m ≡ slice (field (getD qs i (place 0 0))) o m
   unfolding stripFields
   fields-at none i o m h l = absurd (not-suc-le-zero h)
   fields-at (also {x = q} {xs = qs} h hs) zero o m b l =
       ap (λ (e : ℕ). slice (field q ++ stripFields p r x qs) e m) (omega (arith, zero-mul (stripFieldLength (p .s))))
-      ∙ slice-left (field q) (stripFields p r x qs) o m (omega (arith, field-length q h))
+      ∙ slice-left (field q) (stripFields p r x qs) o m (omega (arith, field-size q h))
   fields-at (also {x = q} {xs = qs} h hs) (suc i) o m b l =
       ap (λ (e : ℕ). slice (field q ++ stripFields p r x qs) e m)
-      (omega (arith, suc-mul i (stripFieldLength (p .s)), field-length q h))
+      (omega (arith, suc-mul i (stripFieldLength (p .s)), field-size q h))
       ∙ slice-right (field q) (stripFields p r x qs) (i * stripFieldLength (p .s) + o) m
       ∙ fields-at hs i o m (omega arith) l
 
-  module _ (f : Node) (whole : Each WholeStrip (planned p f)) where
+  module _ (f : Node) (h : f .0 < p .n) where
+    within : Each (Within p) (planned p f)
+    within = plan-within p acc f h
+
     abbrev bundle : List ℕ
     bundle = bundleOf p f r x
 
@@ -88,12 +81,10 @@ module _ (p : Profile) (r : Recording) (x : List ℕ) where
     fields = stripFields p r x (planned p f)
 
     first-length : length first ≡ openingLength + profileLength
-    unfolding fieldOf opening twoBytes profileContent
-    first-length = refl
+    first-length = omega (arith, field-length 1 (profileContent p), profile-length p)
 
     second-length : length second ≡ openingLength + lostLength
-    unfolding fieldOf opening twoBytes lostContent recordingBytes fourBytes
-    second-length = refl
+    second-length = omega (arith, field-length 2 (lostContent f r), lost-length f r)
 
     pub cut-first : (slice bundle 0 openingLength ≡ opening 1 profileLength)
         × (slice bundle openingLength profileLength ≡ profileContent p)
@@ -105,13 +96,7 @@ module _ (p : Profile) (r : Recording) (x : List ℕ) where
     unfolding bundleOf fieldOf opening twoBytes profileContent lostContent recordingBytes fourBytes slice
     cut-second = (refl, refl)
 
-    pub cut-length : length bundle ≡ bundleLength p f
-    unfolding bundleOf
-    cut-length =
-        length-append first (second ++ fields) ∙ ap (λ (e : ℕ). length first + e) (length-append second fields)
-        ∙ omega (arith, first-length, second-length, fields-length whole)
-
-    module _ (i : ℕ) (h : i < length (planned p f)) where
+    module _ (i : ℕ) (b : i < length (planned p f)) where
       abbrev here : Place
       here = plannedAt p f i
 
@@ -122,7 +107,7 @@ module _ (p : Profile) (r : Recording) (x : List ℕ) where
           ap (λ (e : ℕ). slice bundle e m) (omega (arith, first-length, second-length))
           ∙ slice-right first (second ++ fields) (length second + (i * stripFieldLength (p .s) + o)) m
           ∙ slice-right second fields (i * stripFieldLength (p .s) + o) m
-          ∙ fields-at whole i o m h l
+          ∙ fields-at within i o m b l
 
       entry : (o : ℕ) → o < stripFieldLength (p .s) → getD bundle (stripField p i + o) 0 ≡ getD (field here) o 0
       entry o l =
@@ -132,16 +117,16 @@ module _ (p : Profile) (r : Recording) (x : List ℕ) where
           ∙ slice-at (field here) o 1 0 (omega arith)
           ∙ ap (λ (e : ℕ). getD (field here) e 0) (add-zero o)
 
-      content-length : length (stripContent here r (stripOf p x here)) ≡ stripLength (p .s)
-      unfolding stripContent recordingBytes fourBytes plannedAt
-      content-length = omega (arith, each-at (place 0 0) whole i h)
+      here-within : Within p here
+      unfolding plannedAt
+      here-within = each-at (place 0 0) within i b
 
       pub cut-opening : slice bundle (stripField p i) openingLength ≡ opening 3 (stripLength (p .s))
       unfolding fieldOf opening twoBytes slice
       cut-opening =
           ap (λ (e : ℕ). slice bundle e openingLength) (sym (add-zero (stripField p i)))
           ∙ part 0 openingLength (omega arith)
-          ∙ ap (λ (m : ℕ). opening 3 m) content-length
+          ∙ ap (λ (m : ℕ). opening 3 m) (content-length p r x acc size here here-within)
 
       pub cut-place : placeIn p bundle i ≡ here
       unfolding placeIn fieldOf opening twoBytes stripContent
@@ -163,5 +148,22 @@ module _ (p : Profile) (r : Recording) (x : List ℕ) where
           let there : stripField p i + openingLength + 2 + recordingLength ≡ stripField p i + o = omega arith in
           ap (λ (e : ℕ). slice bundle e (p .s)) there
           ∙ part o (p .s) (omega arith)
-          ∙ ap (λ (m : ℕ). take m (stripOf p x here)) (sym (each-at (place 0 0) whole i h))
+          ∙ ap (λ (m : ℕ). take m (stripOf p x here)) (sym (strip-length p r x acc size here here-within))
           ∙ take-length (stripOf p x here)
+
+-- arrays alike at the planned places give one bundle
+fields-ext : (p : Profile) (r : Recording) (x y : List ℕ) {qs : List Place}
+    → Each (λ q. stripOf p x q ≡ stripOf p y q) qs → stripFields p r x qs ≡ stripFields p r y qs
+unfolding stripFields
+fields-ext p r x y none = refl
+fields-ext p r x y (also {x = q} e es) =
+    ap₂ (λ (v l : List ℕ). fieldOf 3 (stripContent q r v) ++ l) e (fields-ext p r x y es)
+
+pub bundle-ext : (p : Profile) (f : Node) (r : Recording) (x y : List ℕ)
+    → ((i : ℕ) → i < length (planned p f)
+    → stripOf p x (getD (planned p f) i (place 0 0)) ≡ stripOf p y (getD (planned p f) i (place 0 0)))
+    → bundleOf p f r x ≡ bundleOf p f r y
+unfolding bundleOf
+bundle-ext p f r x y alike =
+    ap (λ (l : List ℕ). fieldOf 1 (profileContent p) ++ (fieldOf 2 (lostContent f r) ++ l))
+    (fields-ext p r x y (each-from (place 0 0) (planned p f) alike))

@@ -7,6 +7,11 @@ pub mod Rows
 pub mod Walks
 pub mod Price
 pub mod Planned
+pub mod Tried
+pub mod PlanBytes
+pub mod Bundle
 pub mod Cut
 pub mod Columns
 pub mod Chosen
+pub mod Values
+pub mod Program

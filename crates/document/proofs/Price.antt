@@ -1,7 +1,7 @@
 -- How many places a plan reads: its price, over any walk that goes over each candidate once.
 use mathlib.Core.Path.{_≡_, refl}
 use mathlib.Core.List.{List, [], _∷_}
-use Prim.Native.Nat.{ℕ, _+_, _-_, _*_, _/_, _≤_, _<_}
+use Prim.Native.Nat.{ℕ, zero, suc, _+_, _-_, _*_, _/_, _≤_, _<_}
 use native.Mathlib.Nat.{mul-sub}
 use native.Mathlib.Omega.{arith}
 use lib.ListN.{length, length-append, length-map, length-take}
@@ -18,7 +18,9 @@ use Rattle.document.specs.Plan.{
   planOver,
   planned,
   priceOf,
+  maxPlaces,
 }
+use Rattle.document.proofs.Bounds.{n-is}
 use Rattle.document.proofs.Walks.{Sound, complete-sound, walk-complete, nodes-enough}
 
 -- a node stands for two places in step 3
@@ -32,6 +34,18 @@ later-price : (k d : ℕ) (w : Walk) → length (w .diagonal) ≡ d → k - d �
     → length (stepTwo k w) + 2 * length (stepThree k w) ≡ k + (k - d)
 later-price k d w diagonal enough =
     rw (length-take _ (w .diagonal), length-take _ (w .off-diagonal), diagonal) (omega (arith, enough))
+
+-- (24,20,4) has the longest plan
+pub price-bound : (p : Profile) → Accepted p → priceOf (p .n) (p .k) (p .a) ≤ maxPlaces
+price-bound p acc = go (p .a) (acc .shape .two-rows) (acc .shape .few-rows) (acc .shape .enough-parity) (n-is p acc)
+  where
+    go : (A : ℕ) → 2 ≤ A → A ≤ 4 → A ≤ p .n - p .k → p .n ≡ p .n / A * A → priceOf (p .n) (p .k) A ≤ maxPlaces
+    go (suc (suc zero)) l h e i = omega (arith, acc .shape .few-nodes)
+    go (suc (suc (suc zero))) l h e i = omega (arith, acc .shape .few-nodes)
+    go (suc (suc (suc (suc zero)))) l h e i = omega (arith, acc .shape .few-nodes)
+    go zero l h e i = absurd (omega arith)
+    go (suc zero) l h e i = absurd (omega arith)
+    go (suc (suc (suc (suc (suc A))))) l h e i = absurd (omega arith)
 
 module _ (p : Profile) (acc : Accepted p) (f : Node) (h : f .0 < p .n) where
   open Profile p using (n, k, a as A)
@@ -55,3 +69,6 @@ module _ (p : Profile) (acc : Accepted p) (f : Node) (h : f .0 < p .n) where
   pub planned-price : length (planned p f) ≡ priceOf n k A
   unfolding planned
   planned-price = over-price (walkOf p f) (walk-complete p f)
+
+  pub few-places : length (planned p f) ≤ maxPlaces
+  few-places = omega (arith, planned-price, price-bound p acc)

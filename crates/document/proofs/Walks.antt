@@ -89,3 +89,7 @@ module _ (p : Profile) (acc : Accepted p) where
       off-diagonal-length =
           once-length n (isOffDiagonal A f) (w .off-diagonal) (complete .off-diagonal) ∙ off-diagonal-count;
     }
+
+    -- document 01's walk
+    pub walk-sound : Sound n A f (walkOf p f)
+    walk-sound = complete-sound (walkOf p f) (walk-complete p f)

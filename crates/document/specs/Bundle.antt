@@ -6,9 +6,11 @@
 -- profileContent p       : the content of field 01
 -- lostContent f r        : the content of field 02
 -- stripContent q r strip : the content of field 03 for the place q
+-- profileLength, lostLength, stripLength S : how long these contents are
 -- headLength             : the length of fields 01 and 02 together, tags and lengths counted in
 -- stripFieldLength S     : the length of a field 03
 -- bundleLength p f       : the length of a bundle
+-- longestBundle          : no bundle is longer
 -- stripOf p x q          : the strip of the place q in a stored array x
 -- stripFields p r x qs   : the fields 03 for the places qs, with the strips of x
 -- bundleOf p f r x       : the bundle cut from the stored array x
@@ -48,10 +50,10 @@ use Rattle.document.specs.declared.Refusal.the-variants.{
 use Rattle.document.specs.declared.Answer.{Answer}
 use Rattle.document.specs.declared.Answer.the-variants.{Done, Refused}
 use Rattle.document.specs.Refusals.{Test, tried}
-use Rattle.document.specs.Profile.{profileTests, profileOf}
+use Rattle.document.specs.Profile.{maxStrip, profileTests, profileOf}
 use Rattle.document.specs.Places.{place, samePlace}
 use Rattle.document.specs.Encoding.{start}
-use Rattle.document.specs.Plan.{planned, plannedAt}
+use Rattle.document.specs.Plan.{planned, plannedAt, maxPlaces}
 
 -- 'scenario number in four bytes'
 abbrev pub recordingLength : ℕ
@@ -90,6 +92,9 @@ stripFieldLength S = openingLength + stripLength S
 
 abbrev pub bundleLength : Profile → Node → ℕ
 bundleLength p f = headLength + length (planned p f) * stripFieldLength (p .s)
+
+abbrev pub longestBundle : ℕ
+longestBundle = headLength + maxPlaces * stripFieldLength maxStrip
 
 -- 'it takes its strips from the planned places'
 unfoldable pub stripOf : Profile → List ℕ → Place → List ℕ

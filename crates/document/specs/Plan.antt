@@ -16,6 +16,7 @@
 -- planned p f         : the planned places
 -- plannedAt p f i     : the planned place i, from 0
 -- priceOf n k A       : their number
+-- maxPlaces           : the greatest of these numbers
 -- planBytes qs        : places written as two bytes each
 -- planTests p f x     : the refusals of planning, in their order
 -- planOf p f x        : planning into x: the answer, and what x holds then
@@ -72,7 +73,7 @@ pub record Walk : Type 0 where
   pub diagonal : List ℕ
   pub off-diagonal : List ℕ
 
--- What the theorems about plans ask of a walk: a later edition walks in another order.
+-- What the theorems about plans ask of a walk, whatever its order.
 pub record Complete (n A : ℕ) (f : Node) (w : Walk) : Type 0 where
   pub own : ListsOnce n (isOwn A f) (w .own)
   pub diagonal : ListsOnce n (isDiagonal A f) (w .diagonal)
@@ -113,6 +114,10 @@ plannedAt p f i = getD (planned p f) i (place 0 0)
 -- 'The number of places is A-1 + k + max(0, k-(G-1))', where G = n div A.
 abbrev pub priceOf : ℕ → ℕ → ℕ → ℕ
 priceOf n k A = (A - 1) + k + (k - (n / A - 1))
+
+-- 'Examples: .. (24,20,4) 38'; `few-places` in proofs/ shows that no accepted profile has more.
+abbrev pub maxPlaces : ℕ
+maxPlaces = 38
 
 -- 'A plan is written as two bytes a place'; 'A place is written node first, then row'.
 unfoldable pub planBytes : List Place → List ℕ

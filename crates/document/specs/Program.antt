@@ -1,14 +1,14 @@
 -- 'What the store holds': the small program, from the bytes of its standard input to those of its standard output.
 --
--- byteIn input i     : byte i of the input; 0 where it is missing
--- numbersIn input    : the wanted profile's numbers
--- lostIn input       : the wanted node
--- recordingIn input  : the wanted recording
--- programHead        : the length of these
--- decimal v          : a number below 100 in decimal digits
--- lineOf r           : the line for the refusal r
--- outputOf outcome   : what is written for the outcome of a rebuild
--- programOf input    : what the program writes
+-- byteIn input i        : byte i of the input; 0 where it is missing
+-- programHead           : the length of what stands before the bundle
+-- wantedNumbers input   : the wanted profile's numbers
+-- wantedNode input      : the wanted node
+-- wantedRecording input : the wanted recording
+-- decimal v             : a number below 100 in decimal digits
+-- lineOf r              : the line for the refusal r
+-- outputOf outcome      : what is written for the outcome of a rebuild
+-- programOf input       : what the program writes
 use mathlib.Core.Bool.{cond}
 use mathlib.Core.List.{List, [], _∷_, _++_}
 use Prim.Native.Nat.{ℕ, _+_, _*_, _/_, _%_}
@@ -30,8 +30,8 @@ byteIn input i = getD input i 0
 abbrev pub programHead : ℕ
 programHead = 11
 
-unfoldable pub numbersIn : List ℕ → Numbers
-numbersIn input = record {
+unfoldable pub wantedNumbers : List ℕ → Numbers
+wantedNumbers input = record {
   n = byteIn input 0;
   k = byteIn input 1;
   a = byteIn input 2;
@@ -39,11 +39,11 @@ numbersIn input = record {
   s = byteIn input 4 * 256 + byteIn input 5;
 }
 
-unfoldable pub lostIn : List ℕ → ℕ
-lostIn input = byteIn input 6
+unfoldable pub wantedNode : List ℕ → ℕ
+wantedNode input = byteIn input 6
 
-unfoldable pub recordingIn : List ℕ → Recording
-recordingIn input = record {
+unfoldable pub wantedRecording : List ℕ → Recording
+wantedRecording input = record {
   scenario = ((byteIn input 7 * 256 + byteIn input 8) * 256 + byteIn input 9) * 256 + byteIn input 10;
 }
 
@@ -67,6 +67,6 @@ outputOf (Refused r, column) = lineOf r
 -- length.
 unfoldable pub programOf : List ℕ → List ℕ
 programOf input =
-    let p : Numbers = numbersIn input in
+    let p : Numbers = wantedNumbers input in
     outputOf
-    (rebuildOf p (lostIn input) (recordingIn input) (drop programHead input) (replicate (p .a * p .s) 0))
+    (rebuildOf p (wantedNode input) (wantedRecording input) (drop programHead input) (replicate (p .a * p .s) 0))

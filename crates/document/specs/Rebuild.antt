@@ -1,10 +1,11 @@
 -- The rebuild of one lost node f.
 --
--- positionOf q qs                 : where the place q stands in the list qs, from 0
+-- positionOf q qs                 : where the place q stands in the list qs, from 0; past its end if it does not
 -- givenAt qs src first stride b q : byte b of the strip given for the place q: strip i of src, which starts at
 --                                   first + i·stride, is given for place i of qs
 -- rebuiltOver p f w x             : the column of f rebuilt from x over the walk w, where x b q is byte b at the place q
 -- rebuiltOf p f src first stride  : the column of f rebuilt from the strips of src, given in plan order
+-- firstStrip                      : where the first strip of a bundle starts
 -- rebuildTests p f r b y          : the refusals of a rebuild, in their order
 -- rebuildOf p f r b y             : rebuilding from the bundle b into y: the answer, and what y holds then
 --

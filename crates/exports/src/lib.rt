@@ -6,9 +6,12 @@ ghost use Rattle.gf256.specs.Field.{_⊗_};
 ghost use Rattle.document.specs.Refusals.{answerValue};
 ghost use Rattle.document.specs.Encoding.{encodeOf};
 ghost use Rattle.document.specs.Plan.{planOf};
+ghost use Rattle.document.specs.Bundle.{writeOf};
+ghost use Rattle.document.specs.Rebuild.{rebuildOf};
 ghost use Rattle.exports.specs.Packed.{packed, packedWith};
 use document::Answer;
 use document::Numbers;
+use document::Recording;
 
 // The answer's number in the low byte, its value above it.
 fn pack(answer: Answer) -> u64
@@ -51,6 +54,46 @@ pub extern "C" fn whaupfield_plan(
         (record { n = n; k = k; a = a; t = t; s = s }) lost (now (places .entry))) ⌝ }
 {
     pack(plan::plan(Numbers { n, k, a, t, s }, lost, places))
+}
+
+#[no_mangle]
+pub extern "C" fn whaupfield_write_bundle(
+    n: usize,
+    k: usize,
+    a: usize,
+    t: usize,
+    s: usize,
+    lost: usize,
+    scenario: u32,
+    array: &[u8],
+    bundle: &mut [u8],
+) -> u64
+    ensures { λ r. ⌜ (r, now (bundle .exit)) ≡ packedWith (writeOf
+        (record { n = n; k = k; a = a; t = t; s = s }) lost (record { scenario = scenario })
+        (now (array .entry)) (now (bundle .entry))) ⌝ }
+{
+    let p = Numbers { n, k, a, t, s };
+    pack(bundle::write_bundle(p, lost, Recording { scenario }, array, bundle))
+}
+
+#[no_mangle]
+pub extern "C" fn whaupfield_rebuild(
+    n: usize,
+    k: usize,
+    a: usize,
+    t: usize,
+    s: usize,
+    lost: usize,
+    scenario: u32,
+    bundle: &[u8],
+    column: &mut [u8],
+) -> u64
+    ensures { λ r. ⌜ (r, now (column .exit)) ≡ packedWith (rebuildOf
+        (record { n = n; k = k; a = a; t = t; s = s }) lost (record { scenario = scenario })
+        (now (bundle .entry)) (now (column .entry))) ⌝ }
+{
+    let p = Numbers { n, k, a, t, s };
+    pack(rebuild::rebuild(p, lost, Recording { scenario }, bundle, column))
 }
 
 #[no_mangle]

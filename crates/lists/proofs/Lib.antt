@@ -8,3 +8,4 @@ pub mod Rising
 pub mod Slice
 pub mod Some
 pub mod Once
+pub mod Same

@@ -1,12 +1,12 @@
--- The laws of `put` and `Wrote`: one entry, two writes in a row, nothing written.
+-- The laws of `put` and `Wrote`: one entry, the next entry, two writes in a row, nothing written, the whole written.
 use mathlib.Core.Path.{_≡_, refl, sym, ap, subst, _∙_}
-use mathlib.Core.List.{List, [], _∷_, _++_, append-assoc}
+use mathlib.Core.List.{List, [], _∷_, _++_, append-assoc, append-nil}
 use Prim.Native.Nat.{ℕ, _+_, _≤_, _<_}
-use native.Mathlib.Nat.{add-zero}
+use native.Mathlib.Nat.{add-zero, zero-add}
 use native.Mathlib.Numerals.{add-one}
 use native.Mathlib.Omega.{arith}
-use lib.ListN.{length, set, take, drop, length-append, take-append-drop}
-use lib.Seq.{set-split, take-at, drop-at, drop-drop, length-take-le}
+use lib.ListN.{length, getD, set, take, drop, length-append, length-drop, take-append-drop}
+use lib.Seq.{set-split, take-at, take-suc, drop-at, drop-drop, drop-length, length-take-le}
 use Rattle.lists.specs.Put.{put, Wrote}
 
 pub set-put : (d : List ℕ) (i b : ℕ) → i < length d → set d i b ≡ put d i (b ∷ [])
@@ -34,6 +34,28 @@ module _ (d : List ℕ) (at : ℕ) (h : at ≤ length d) where
       sym (drop-drop (length v) n (take at d ++ (u ++ q))) ∙ ap (drop (length v)) r ∙ drop-drop (length v) n d in
       let l : at + length (u ++ v) ≡ n + length v = simp length-append (omega arith) in
       rw (t, s, l) (simp append-assoc)
+
+  put-length : (u : List ℕ) → at + length u ≤ length d → length (put d at u) ≡ length d
+  unfolding put
+  put-length u k = simp (length-append, length-take-le at d h, length-drop) (omega arith)
+
+-- a loop that writes a list entry by entry
+pub put-next : (d s : List ℕ) (at i : ℕ) → at + length s ≤ length d → i < length s
+    → set (put d at (take i s)) (at + i) (getD s i 0) ≡ put d at (take (i + 1) s)
+put-next d s at i h k =
+    let a : at ≤ length d = omega arith in
+    let l : length (take i s) ≡ i = length-take-le i s (omega arith) in
+    let n : length (put d at (take i s)) ≡ length d = put-length d at a (take i s) (omega arith) in
+    let e : take (i + 1) s ≡ take i s ++ (getD s i 0 ∷ []) = rw (add-one, take-suc s i 0 k) in
+    set-put _ _ _ (omega arith)
+    ∙ ap (λ (m : ℕ). put (put d at (take i s)) (at + m) (getD s i 0 ∷ [])) (sym l)
+    ∙ put-put d at a (take i s) (getD s i 0 ∷ [])
+    ∙ ap (put d at) (sym e)
+
+-- the whole list written anew
+pub put-whole : (d u : List ℕ) → length u ≡ length d → put d 0 u ≡ u
+unfolding put
+put-whole d u e = rw (e, zero-add, drop-length, append-nil)
 
 -- one entry stored
 pub wrote-one : (d : List ℕ) (at b : ℕ) → at < length d → Wrote d at (b ∷ []) (at + 1) (set d at b)

@@ -18,7 +18,7 @@ use Rattle.document.specs.Refusals.{tried}
 use Rattle.document.specs.Profile.{profileOf, checkedOf}
 use Rattle.document.specs.Plan.{planned, planBytes, planTests, planOf}
 use Rattle.document.proofs.Accepts.{accepted, tried-rejected, tried-accepted}
-use Rattle.plan.proofs.Places.{bytes-length}
+use Rattle.document.proofs.PlanBytes.{bytes-length}
 
 -- places written at the start: the bytes past them stay
 written : (x : List ℕ) (qs : List Place) {end : ℕ} {y : List ℕ} → Wrote x 0 (planBytes qs) end y

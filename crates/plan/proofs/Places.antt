@@ -2,7 +2,7 @@
 use mathlib.Core.Path.{_≡_, refl, sym, ap, ap₂, _∙_}
 use mathlib.Core.Bool.{true, false}
 use mathlib.Core.List.{List, [], _∷_, _++_, map, append-nil, append-assoc}
-use Prim.Native.Nat.{ℕ, _+_, _*_, _≤_, _<_}
+use Prim.Native.Nat.{ℕ, _+_, _≤_, _<_}
 use native.Mathlib.Numerals.{add-one}
 use native.Mathlib.Omega.{arith}
 use lib.ListN.{length, getD, take, drop, length-append, take-append-drop}
@@ -12,17 +12,8 @@ use Rattle.document.specs.declared.Node.{Node}
 use Rattle.document.specs.declared.Place.{Place}
 use Rattle.document.specs.Places.{partnerOf}
 use Rattle.document.specs.Plan.{isOffDiagonal, rowAt, pairsAt, planBytes}
+use Rattle.document.proofs.PlanBytes.{bytes-append, bytes-length}
 use Rattle.plan.specs.Steps.{placesAt, placesOf}
-
-bytes-append : (qs rs : List Place) → planBytes (qs ++ rs) ≡ planBytes qs ++ planBytes rs
-unfolding planBytes
-bytes-append [] rs = refl
-bytes-append (q ∷ qs) rs = ap (λ (l : List ℕ). q .node .0 ∷ q .row .0 ∷ l) (bytes-append qs rs)
-
-pub bytes-length : (qs : List Place) → length (planBytes qs) ≡ 2 * length qs
-unfolding planBytes
-bytes-length [] = refl
-bytes-length (q ∷ qs) = omega (arith, bytes-length qs)
 
 module _ (A : ℕ) (f : Node) where
   module _ (j : ℕ) where
@@ -62,29 +53,31 @@ module _ (A : ℕ) (f : Node) where
   abbrev bytesOf : List ℕ → List ℕ
   bytesOf js = planBytes (placesOf A f js)
 
-  bytesOf-append : (is js : List ℕ) → bytesOf (is ++ js) ≡ bytesOf is ++ bytesOf js
-  bytesOf-append is js =
-      ap planBytes (places-append is js) ∙ bytes-append (placesOf A f is) (placesOf A f js)
-
   alone : (j : ℕ) → placesOf A f (j ∷ []) ≡ placesAt A f j
   unfolding placesOf
   alone j = append-nil (placesAt A f j)
 
   module _ (js : List ℕ) (i : ℕ) (h : i < length js) where
-    abbrev here : List ℕ
-    here = planBytes (placesAt A f (getD js i 0))
+    abbrev here : List Place
+    here = placesAt A f (getD js i 0)
 
-    pub next-node : bytesOf (take i js) ++ here ≡ bytesOf (take (i + 1) js)
-    next-node =
-        ap (λ (l : List Place). bytesOf (take i js) ++ planBytes l) (sym (alone (getD js i 0)))
-        ∙ sym (ap bytesOf (rw (add-one, take-suc js i 0)) ∙ bytesOf-append (take i js) (getD js i 0 ∷ []))
+    pub next-places : placesOf A f (take (i + 1) js) ≡ placesOf A f (take i js) ++ here
+    next-places =
+        ap (placesOf A f) (rw (add-one, take-suc js i 0))
+        ∙ places-append (take i js) (getD js i 0 ∷ [])
+        ∙ ap (λ (l : List Place). placesOf A f (take i js) ++ l) (alone (getD js i 0))
 
-    pub next-fits : length (bytesOf (take i js)) + length here ≤ length (bytesOf js)
+    pub split-places : placesOf A f js ≡ placesOf A f (take i js) ++ (here ++ placesOf A f (drop (i + 1) js))
+    split-places =
+        ap (placesOf A f) (sym (take-append-drop (i + 1) js))
+        ∙ places-append (take (i + 1) js) (drop (i + 1) js)
+        ∙ ap (λ (l : List Place). l ++ placesOf A f (drop (i + 1) js)) next-places
+        ∙ append-assoc (placesOf A f (take i js)) here (placesOf A f (drop (i + 1) js))
+
+    pub next-node : bytesOf (take i js) ++ planBytes here ≡ bytesOf (take (i + 1) js)
+    next-node = sym (ap planBytes next-places ∙ bytes-append (placesOf A f (take i js)) here)
+
+    pub next-fits : length (bytesOf (take i js)) + length (planBytes here) ≤ length (bytesOf js)
     next-fits =
-        let all : bytesOf js ≡ bytesOf (take (i + 1) js) ++ bytesOf (drop (i + 1) js) =
-        ap bytesOf (sym (take-append-drop (i + 1) js)) ∙ bytesOf-append (take (i + 1) js) (drop (i + 1) js) in
-        omega (
-          arith,
-          simp length-append at (ap length all),
-          simp length-append at (ap length next-node),
-        )
+        rw (bytes-length (placesOf A f (take i js)), bytes-length here, bytes-length (placesOf A f js))
+        (omega (arith, simp length-append at (ap length split-places)))

@@ -7,7 +7,7 @@ use native.Mathlib.Nat.{zero-add, sub-zero, mul-sub}
 use native.Mathlib.Omega.{arith}
 use lib.Dec.{eqb}
 use lib.ListN.{length, take, length-append}
-use lib.Seq.{take-append-le, take-append-add}
+use lib.Seq.{length-take-le, take-append-le, take-append-add}
 use Rattle.lists.specs.Listed.{rising}
 use Rattle.lists.specs.Put.{put, Wrote}
 use Rattle.lists.proofs.Put.{wrote-then}
@@ -25,10 +25,11 @@ use Rattle.document.specs.Plan.{
   walkOf,
   stepTwo,
   stepThree,
+  nodesOver,
   planOver,
   planned,
 }
-use Rattle.document.proofs.Walks.{Sound, complete-sound, walk-complete, nodes-enough}
+use Rattle.document.proofs.Walks.{Sound, walk-sound, nodes-enough}
 use Rattle.plan.specs.Steps.{placesOf}
 use Rattle.plan.proofs.Places.{places-append, singles, pairs}
 
@@ -71,17 +72,23 @@ module _ (p : Profile) (acc : Accepted p) (f : Node) (h : f .0 < p .n) where
   third = stepThree k (walkOf p f)
 
   -- the nodes of the plan
-  abbrev pub planNodes : List ℕ
-  planNodes = own ++ (second ++ third)
+  abbrev planNodes : List ℕ
+  planNodes = nodesOver k (walkOf p f)
 
   sound : Sound n A f (walkOf p f)
-  sound = complete-sound p acc f h (walkOf p f) (walk-complete p f)
+  sound = walk-sound p acc f h
 
   -- steps 2 and 3 have k nodes to go over
   enough : k ≤ length (diagonal ++ off)
   enough =
       rw (length-append, sound .diagonal-length, sound .off-diagonal-length)
       (omega (arith, mul-sub (n / A - 1) A 1, nodes-enough p acc))
+
+  pub nodes-count : length planNodes ≡ A - 1 + k
+  nodes-count =
+      length-append own (second ++ third)
+      ∙ ap₂ _+_ (sound .own-length)
+      (sym (ap length (take-both k diagonal off)) ∙ length-take-le k (diagonal ++ off) enough)
 
   front-nodes : (rest : List ℕ) → take (length own + k) (((own ++ diagonal) ++ off) ++ rest) ≡ planNodes
   front-nodes rest =
@@ -94,12 +101,14 @@ module _ (p : Profile) (acc : Accepted p) (f : Node) (h : f .0 < p .n) where
   -- where the three steps write their nodes one after the other
   pub nodes-written : {d d₁ d₂ d₃ : List ℕ} {m₁ m₂ m₃ : ℕ}
       → Wrote d 0 own m₁ d₁ → Wrote d₁ m₁ diagonal m₂ d₂ → Wrote d₂ m₂ off m₃ d₃
-      → take (m₁ + k) d₃ ≡ planNodes
+      → (m₁ + k ≡ length planNodes) × (take (m₁ + k) d₃ ≡ planNodes)
   unfolding put
-  nodes-written u v w =
-      ap₂ (λ (m : ℕ) (l : List ℕ). take (m + k) l) (u .ends ∙ zero-add (length own))
-      (wrote-then zero-le (wrote-then zero-le u v) w .holds)
-      ∙ front-nodes _
+  nodes-written {m₁ = m₁} u v w =
+      let e : m₁ ≡ length own = u .ends ∙ zero-add (length own) in (
+        ap (λ (m : ℕ). m + k) (e ∙ sound .own-length) ∙ sym nodes-count,
+        ap₂ (λ (m : ℕ) (l : List ℕ). take (m + k) l) e (wrote-then zero-le (wrote-then zero-le u v) w .holds)
+            ∙ front-nodes _,
+      )
 
   pub nodes-below : Each (λ j. j < n) planNodes
   nodes-below =

@@ -3,11 +3,11 @@ ghost use mathlib.Core.Path.{_≡_};
 ghost use mathlib.Core.Bool.{cond};
 ghost use mathlib.Core.List.{[], _∷_};
 ghost use Prim.Native.Nat.{ℕ, _+_, _<_, _≤_};
-ghost use lib.ListN.{length, getD};
+ghost use lib.ListN.{length, getD, take};
 ghost use Rattle.lists.specs.Listed.{rising};
 ghost use Rattle.lists.specs.Put.{Wrote};
 ghost use Rattle.document.specs.Profile.{Accepted};
-ghost use Rattle.document.specs.Plan.{planned, priceOf, planBytes, planOf};
+ghost use Rattle.document.specs.Plan.{walkOf, nodesOver, planned, priceOf, planBytes, planOf};
 ghost use Rattle.plan.specs.Steps.{inStep, placesAt, placesOf};
 use document::Answer;
 use document::Checked;
@@ -27,7 +27,7 @@ pub enum Step {
 }
 
 // Whether the step goes over node j.
-fn in_step(step: Step, p: Profile, f: Node, j: usize) -> bool
+pub fn in_step(step: Step, p: Profile, f: Node, j: usize) -> bool
     requires { ⌜ Accepted p ⌝ }
     ensures { λ r. ⌜ r ≡ inStep step (p .a) f j ⌝ }
 {
@@ -110,16 +110,26 @@ fn put_nodes(out: &mut [u8], p: Profile, f: Node, nodes: &[u8]) -> usize
     at
 }
 
+// Writes the numbers of the nodes that the plan reads at, and returns how many there are. A step's nodes may be more
+// than the plan takes of them, so the buffer is longer than the list.
+pub fn list_nodes(out: &mut [u8], p: Profile, f: Node) -> usize
+    requires { ⌜ Accepted p × (f .0 < p .n) × (72 ≤ length (now out)) ⌝ }
+    ensures { λ r. ⌜ (r ≡ length (nodesOver (p .k) (walkOf p f)))
+        × (take r (now (out .exit)) ≡ nodesOver (p .k) (walkOf p f)) ⌝ }
+{
+    let own = list_step(out, 0, p, f, Step::Own);
+    let diagonal = list_step(out, own, p, f, Step::Diagonal);
+    list_step(out, diagonal, p, f, Step::OffDiagonal);
+    own + p.k
+}
+
 // Writes the planned places, two bytes each, and returns the number of bytes.
 pub fn put_plan(out: &mut [u8], p: Profile, f: Node) -> usize
     requires { ⌜ Accepted p × (f .0 < p .n) × (length (planBytes (planned p f)) ≤ length (now out)) ⌝ }
     ensures { λ r. ⌜ Wrote (now (out .entry)) 0 (planBytes (planned p f)) r (now (out .exit)) ⌝ }
 {
     let mut nodes = [0u8; 72];
-    let own = list_step(&mut nodes, 0, p, f, Step::Own);
-    let diagonal = list_step(&mut nodes, own, p, f, Step::Diagonal);
-    list_step(&mut nodes, diagonal, p, f, Step::OffDiagonal);
-    let end = own + p.k;
+    let end = list_nodes(&mut nodes, p, f);
     put_nodes(out, p, f, &nodes[..end])
 }
 

@@ -8,7 +8,9 @@ use mathlib.Core.List.{List, [], _∷_, _++_, map}
 use Prim.Native.Nat.{ℕ}
 use native.Mathlib.Decide.{ℕ-discrete, decLt}
 use lib.ListN.{take, drop, replicate}
-use Rattle.lists.specs.Listed.{listed, rising}
+use Rattle.lists.specs.Listed.{listed, rising, all}
+use Rattle.lists.specs.Put.{slice, same}
+use Rattle.fields.specs.Fields.{twoBytes, fourBytes, opening}
 use Rattle.gf256.specs.Field.{_⊕_, _⊗_, double, bitProduct, raised, inverse}
 use Rattle.algebra.specs.Sum.{sum}
 use Rattle.algebra.specs.Weight.{weight}
@@ -18,8 +20,9 @@ use Rattle.document.specs.Refusals.{tried, answerNumber, answerValue}
 use Rattle.algebra.specs.Coupling.{base, factor}
 use Rattle.algebra.specs.Rebuild.{rowAt, otherAt, rebuiltAt}
 use Rattle.document.specs.Places.{samePlace}
-use Rattle.document.specs.Rebuild.{positionOf, givenAt, rebuiltOver, rebuiltOf}
-use Rattle.document.specs.Profile.{shapeAccepted, constantAccepted, stripAccepted, profileTests, profileOf}
+use Rattle.document.specs.Bundle.{recordingBytes, profileContent, lostContent, stripField, placeIn, recordingIn, formed, headed, placed, fresh, bundleTests}
+use Rattle.document.specs.Rebuild.{positionOf, givenAt, rebuiltOver, rebuiltOf, rebuildTests, rebuildOf}
+use Rattle.document.specs.Profile.{shapeAccepted, constantAccepted, stripAccepted, profileTests}
 use Rattle.document.specs.Bytes.{bytes, byte, number}
 use Rattle.document.specs.Encoding.{
   start,
@@ -40,6 +43,7 @@ use Rattle.document.specs.Plan.{
   pairsAt,
   planOver,
   planned,
+  plannedAt,
   planBytes,
   planTests,
   planOf,
@@ -53,6 +57,10 @@ pub record Case : Type 0 where
 abbrev pub profile : ℕ → Numbers
 profile t = record { n = 4; k = 2; a = 2; t = t; s = 1 }
 
+abbrev joined : List (List ℕ) → List ℕ
+joined [] = []
+joined (x ∷ xs) = x ++ joined xs
+
 -- An answer and a lent buffer, written as one list: number, value, bytes.
 abbrev pub outcome : Answer × List ℕ → List ℕ
 outcome (answer, x) = answerNumber answer ∷ answerValue answer ∷ x
@@ -61,13 +69,23 @@ outcome (answer, x) = answerNumber answer ∷ answerValue answer ∷ x
 abbrev pub outerColumns : Answer × List ℕ → List ℕ
 outerColumns (answer, x) = outcome (answer, take 2 x ++ drop 6 x)
 
--- The column of a lost node rebuilt from strips of one byte, given in plan order.
-abbrev pub rebuilt : ℕ → List ℕ → List ℕ
-rebuilt f strips = rebuiltOf (profileOf (profile 2)) (record { 0 = f }) strips 0 1
+-- A bundle for (4,2,2), t = 2, S = 1 and scenario 7: the lost node, and a field 03 of these bytes each.
+abbrev pub bundle : ℕ → List (List ℕ) → List ℕ
+bundle f fields =
+    0x01 ∷ 0x00 ∷ 0x06 ∷ 0x04 ∷ 0x02 ∷ 0x02 ∷ 0x02 ∷ 0x00 ∷ 0x01 ∷ 0x02 ∷ 0x00 ∷ 0x05 ∷ f ∷ 0x00 ∷ 0x00 ∷ 0x00 ∷ 0x07
+    ∷ joined fields
 
--- A buffer that is lent, with something in it.
-unfoldable pub lent : List ℕ
-lent = replicate 8 0xFF
+-- A field 03 for node j, row i with a strip of one byte.
+abbrev pub strip : ℕ → ℕ → ℕ → List ℕ
+strip j i v = 0x03 ∷ 0x00 ∷ 0x07 ∷ j ∷ i ∷ 0x00 ∷ 0x00 ∷ 0x00 ∷ 0x07 ∷ v ∷ []
+
+-- A buffer of m bytes that is lent, with something in it.
+unfoldable pub lent : ℕ → List ℕ
+lent m = replicate m 0xFF
+
+-- A rebuild from such a bundle.
+abbrev pub rebuilt : ℕ → List (List ℕ) → List ℕ
+rebuilt f fields = outcome (rebuildOf (profile 2) f (record { scenario = 7 }) (bundle f fields) (lent 2))
 
 -- M1 to M9, in document 01's order.
 unfoldable pub marked : List Case
@@ -76,27 +94,27 @@ marked =
     ∷ record { gives = inverse 2 ∷ []; says = 142 ∷ [] }
     ∷ record { gives = 3 ⊗ 3 ∷ []; says = 5 ∷ [] }
     ∷ record {
-      gives = outcome (encodeOf (profile 2) (0x01 ∷ 0x00 ∷ 0x02 ∷ 0x04 ∷ []) lent);
+      gives = outcome (encodeOf (profile 2) (0x01 ∷ 0x00 ∷ 0x02 ∷ 0x04 ∷ []) (lent 8));
       says = 0 ∷ 0 ∷ 0x01 ∷ 0x04 ∷ 0x02 ∷ 0x04 ∷ 0x07 ∷ 0x00 ∷ 0x0C ∷ 0x0C ∷ [];
     }
     ∷ record {
-      gives = outcome (planOf (profile 2) 0 lent);
-      says = 0 ∷ 4 ∷ 1 ∷ 0 ∷ 2 ∷ 0 ∷ 3 ∷ 0 ∷ 2 ∷ 1 ∷ [];
+      gives = outcome (planOf (profile 2) 0 (lent 9));
+      says = 0 ∷ 4 ∷ 1 ∷ 0 ∷ 2 ∷ 0 ∷ 3 ∷ 0 ∷ 2 ∷ 1 ∷ 0xFF ∷ [];
     }
     ∷ record {
-      gives = outcome (planOf (profile 2) 3 lent);
-      says = 0 ∷ 4 ∷ 2 ∷ 1 ∷ 1 ∷ 1 ∷ 0 ∷ 1 ∷ 1 ∷ 0 ∷ [];
+      gives = outcome (planOf (profile 2) 3 (lent 9));
+      says = 0 ∷ 4 ∷ 2 ∷ 1 ∷ 1 ∷ 1 ∷ 0 ∷ 1 ∷ 1 ∷ 0 ∷ 0xFF ∷ [];
     }
     ∷ record {
-      gives = rebuilt 0 (0x02 ∷ 0x07 ∷ 0x0C ∷ 0x00 ∷ []);
-      says = 0x01 ∷ 0x04 ∷ [];
+      gives = rebuilt 0 (strip 1 0 0x02 ∷ strip 2 0 0x07 ∷ strip 3 0 0x0C ∷ strip 2 1 0x00 ∷ []);
+      says = 0 ∷ 0 ∷ 0x01 ∷ 0x04 ∷ [];
     }
     ∷ record {
-      gives = rebuilt 3 (0x00 ∷ 0x04 ∷ 0x04 ∷ 0x02 ∷ []);
-      says = 0x0C ∷ 0x0C ∷ [];
+      gives = rebuilt 3 (strip 2 1 0x00 ∷ strip 1 1 0x04 ∷ strip 0 1 0x04 ∷ strip 1 0 0x02 ∷ []);
+      says = 0 ∷ 0 ∷ 0x0C ∷ 0x0C ∷ [];
     }
     ∷ record {
-      gives = outerColumns (encodeOf (profile 5) (0x00 ∷ 0x05 ∷ 0x01 ∷ 0x06 ∷ []) lent);
+      gives = outerColumns (encodeOf (profile 5) (0x00 ∷ 0x05 ∷ 0x01 ∷ 0x06 ∷ []) (lent 8));
       says = 0 ∷ 0 ∷ 0x00 ∷ 0x00 ∷ 0x00 ∷ 0x00 ∷ [];
     }
     ∷ []
@@ -106,5 +124,6 @@ pub shown : map (λ c. c .gives) marked ≡ map (λ c. c .says) marked
 unfolding marked lent encodeOf encodeTests profileTests shapeAccepted constantAccepted stripAccepted tried answerNumber
     answerValue encoded laidOut coupledAt constantOf baseAt byteAt start listed sum weight byte number bytes _⊕_ _⊗_
     double bitProduct raised inverse ℕ-discrete decLt planOf planTests planned planOver pairsAt planBytes isOwn isDiagonal
-    isOffDiagonal rising rebuiltOf rebuiltOver givenAt positionOf samePlace columnOf rebuiltAt rowAt otherAt base factor
+    isOffDiagonal rising rebuildOf rebuildTests bundleTests formed headed placed fresh placeIn recordingIn stripField
+    plannedAt slice same all opening twoBytes fourBytes profileContent lostContent recordingBytes rebuiltOf rebuiltOver givenAt positionOf samePlace columnOf rebuiltAt rowAt otherAt base factor
 shown = refl

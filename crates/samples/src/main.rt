@@ -1,8 +1,9 @@
-// Runs document 01's samples and edges that concern the field, the profile, encoding and the plan, and prints what each
-// gives. The file `stdout` says what document 01 says; the marked cases are shown in specs/Marked.antt besides.
+// Runs document 01's samples and edges that concern the field, the profile, encoding, the plan, the bundle and the rebuild,
+// and prints what each gives. The file `stdout` says what document 01 says; the marked cases are shown in specs/Marked.antt besides.
 ghost use Prim.Native.Nat.{_≤_, _<_};
 use document::Answer;
 use document::Numbers;
+use document::Recording;
 use libc::STDOUT_FILENO;
 
 fn print(text: &[u8]) {
@@ -87,6 +88,61 @@ fn print_plan(lost: usize) {
     print_places(&places);
 }
 
+// The bundle of M4's array for a lost node, scenario 7.
+fn cut_sample(lost: usize, bundle: &mut [u8]) {
+    let input = [0x01u8, 0x00, 0x02, 0x04];
+    let mut array = [0u8; 8];
+    encode_small(2, &input, &mut array);
+    let p = numbers(4, 2, 2, 2, 1);
+    bundle::write_bundle(p, lost, Recording { scenario: 7 }, &array, bundle);
+}
+
+// The answer of a rebuild of (4,2,2) from a bundle for scenario 7: the column, or the refusal's number.
+fn print_rebuilt(lost: usize, bundle: &[u8]) {
+    let p = numbers(4, 2, 2, 2, 1);
+    let mut column = [0xFFu8; 2];
+    let answer = rebuild::rebuild(p, lost, Recording { scenario: 7 }, bundle, &mut column);
+    match answer {
+        Answer::Done(_) => print_bytes(&column),
+        Answer::Refused(r) => {
+            print(b" is");
+            print_number(r.number());
+        }
+    }
+}
+
+// M7, M8: the column of a lost node, from the bundle of M4's array.
+fn print_column(lost: usize) {
+    let mut bundle = [0xFFu8; 57];
+    cut_sample(lost, &mut bundle);
+    print_rebuilt(lost, &bundle);
+}
+
+// The bundle and one byte more.
+fn longer(bundle: &[u8; 57]) -> [u8; 58] {
+    let mut long = [0u8; 58];
+    let mut i: usize = 0;
+    while i < 57 {
+        long[i] = bundle[i];
+        i += 1;
+    }
+    long
+}
+
+// The whole bundle of M4 for node 0, its first 56 bytes, and one byte more.
+fn print_bundle() {
+    let mut bundle = [0u8; 57];
+    cut_sample(0, &mut bundle);
+    print(b"bundle");
+    print_bytes(&bundle);
+    print(b"\n56 bytes of it");
+    print_rebuilt(0, &bundle[0..56]);
+    print(b"\n58 bytes");
+    let long = longer(&bundle);
+    print_rebuilt(0, &long);
+    print(b"\n");
+}
+
 // The number of places of a plan.
 fn print_price(name: &[u8], n: usize, k: usize, a: usize) {
     let p = numbers(n, k, a, 2, 1);
@@ -135,6 +191,10 @@ fn print_samples() {
     print_plan(0);
     print(b"\nM6");
     print_plan(3);
+    print(b"\nM7");
+    print_column(0);
+    print(b"\nM8");
+    print_column(3);
     print(b"\nM9");
     zero_columns();
     print(b"\n");
@@ -163,6 +223,7 @@ fn print_prices() {
 
 fn main() {
     print_samples();
+    print_bundle();
     print_edges();
     print_prices();
 }

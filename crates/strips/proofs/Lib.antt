@@ -3,4 +3,5 @@ pub mod Combination
 pub mod Gathered
 pub mod Passes
 pub mod Strip
+pub mod Added
 pub mod Coupled

@@ -49,7 +49,7 @@ pub fn copy(dst: &mut [u8], src: &[u8], at: usize)
 }
 
 // Adds a strip to the strip of x that starts at `at`.
-fn add(x: &mut [u8], at: usize, src: &[u8])
+pub fn add(x: &mut [u8], at: usize, src: &[u8])
     requires { ⌜ at + length (now src) ≤ length (now x) ⌝ }
     ensures { λ _. ⌜ now (x .exit) ≡ addedStrip at (now (src .entry)) (now (x .entry)) ⌝ }
 {
@@ -61,7 +61,7 @@ fn add(x: &mut [u8], at: usize, src: &[u8])
 }
 
 // Adds c times a strip to the strip of x that starts at `at`.
-fn add_scaled(x: &mut [u8], at: usize, src: &[u8], c: u8)
+pub fn add_scaled(x: &mut [u8], at: usize, src: &[u8], c: u8)
     requires { ⌜ at + length (now src) ≤ length (now x) ⌝ }
     ensures { λ _. ⌜ now (x .exit) ≡ addedScaled c at (now (src .entry)) (now (x .entry)) ⌝ }
 {

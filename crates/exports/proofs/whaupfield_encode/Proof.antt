@@ -1,9 +1,11 @@
 -- `exports::whaupfield_encode` meets its contract: the answer of encoding, packed.
 use mathlib.Core.Path.{ap, _∙_}
 use Prim.Native.Nat.{ℕ}
+use native.Mathlib.Omega.{arith}
 use borrow.Author.Needs.{needs}
+use Rattle.document.proofs.Values.{encode-value}
 use Rattle.exports.specs.Packed.{packedWith}
-use Rattle.exports.proofs.Values.{packable, encode-value}
+use Rattle.exports.proofs.Values.{packable}
 use Rattle.exports.proofs.whaupfield_encode.Statement.{statement}
 use Rattle.exports.proofs.whaupfield_encode.Tie as tie
 
@@ -11,7 +13,8 @@ encode-requires : tie.Need-encode-requires
 encode-requires c κs = search needs
 
 pack-requires : tie.Need-pack-requires
-pack-requires c κs = packable _ _ _ (c .before .before .encode .ensures) (encode-value _ _ _)
+pack-requires c κs =
+    packable _ _ _ (c .before .before .encode .ensures) 0 (omega arith) (encode-value _ _ _)
 
 same-length : tie.Need-same-length
 same-length c = search needs

@@ -1,9 +1,12 @@
 -- `exports::whaupfield_plan` meets its contract: the answer of planning, packed.
 use mathlib.Core.Path.{ap, _∙_}
 use Prim.Native.Nat.{ℕ}
+use native.Mathlib.Omega.{arith}
 use borrow.Author.Needs.{needs}
+use Rattle.document.specs.Plan.{maxPlaces}
+use Rattle.document.proofs.Values.{plan-value}
 use Rattle.exports.specs.Packed.{packedWith}
-use Rattle.exports.proofs.Values.{packable, plan-value}
+use Rattle.exports.proofs.Values.{packable}
 use Rattle.exports.proofs.whaupfield_plan.Statement.{statement}
 use Rattle.exports.proofs.whaupfield_plan.Tie as tie
 
@@ -11,7 +14,8 @@ plan-requires : tie.Need-plan-requires
 plan-requires c κs = search needs
 
 pack-requires : tie.Need-pack-requires
-pack-requires c κs = packable _ _ _ (c .before .before .plan .ensures) (plan-value _ _ _)
+pack-requires c κs =
+    packable _ _ _ (c .before .before .plan .ensures) maxPlaces (omega arith) (plan-value _ _ _)
 
 same-length : tie.Need-same-length
 same-length c = search needs

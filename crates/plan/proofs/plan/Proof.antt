@@ -9,7 +9,7 @@ use Rattle.document.specs.Profile.{Accepted, checkedOf}
 use Rattle.document.specs.Plan.{planned}
 use Rattle.document.proofs.Accepts.{accepted}
 use Rattle.document.proofs.Price.{planned-price}
-use Rattle.plan.proofs.Places.{bytes-length}
+use Rattle.document.proofs.PlanBytes.{bytes-length}
 use Rattle.plan.proofs.Answers.{profile-refused, node-refused, buffer-refused, done}
 use Rattle.plan.proofs.plan.Statement.{statement}
 use Rattle.plan.proofs.plan.Tie as tie

@@ -1,0 +1,425 @@
+//! The kinds about rebuilding a lost node: samples, columns that come back, accepted and refused calls.
+
+use crate::bundles::{SAMPLE, SAMPLE_WANTED};
+use crate::calls::{
+    every_lost_node, every_shape, numbers_in_every_order, random_profile, random_scenario, replace_number, small_like,
+    small_numbers, Call, Tally,
+};
+use crate::code::{self, Profile, Refusal};
+use crate::download::{joined, Wanted};
+use crate::library::{self, Answer, Lent};
+use crate::random::Random;
+use crate::solving;
+use crate::{hex, Count, Outcome};
+
+/// One call: what is wanted, the bundle and what the buffer for the column holds before.
+struct Case {
+    wanted: Wanted,
+    bundle: Vec<u8>,
+    column: Vec<u8>,
+}
+
+impl Case {
+    fn new(wanted: Wanted, bundle: Vec<u8>, column_length: usize, random: &mut Random) -> Case {
+        Case { wanted, bundle, column: random.bytes(column_length) }
+    }
+
+    /// With a buffer for the column that fits accepted numbers.
+    fn fitting(wanted: Wanted, bundle: Vec<u8>, random: &mut Random) -> Case {
+        Case::new(wanted, bundle, wanted.profile.column_length(), random)
+    }
+
+    fn disagreement(&self, what: String) -> String {
+        let Wanted { profile: Profile { n, k, rows, t, s }, lost, scenario } = self.wanted;
+        let (bundle_length, column_length) = (self.bundle.len(), self.column.len());
+        let (bundle, column) = (hex(&self.bundle), hex(&self.column));
+        format!(
+            "rebuild n={n} k={k} A={rows} t={t} S={s} lost={lost} scenario={scenario} bundle_len={bundle_length} \
+             bundle={bundle} column_len={column_length} column={column}: {what}"
+        )
+    }
+
+    /// Calls the library; compares the answer and every byte that must not change with `expected`. Gives the column
+    /// as the call leaves it.
+    fn call(&self, expected: Option<Refusal>, random: &mut Random) -> Result<Vec<u8>, String> {
+        let mut bundle = Lent::new(&self.bundle, random);
+        let mut column = Lent::new(&self.column, random);
+        let answer = library::rebuild(&self.wanted, &mut bundle, &mut column);
+        let due = Answer::due(expected.map_or(Ok(0), Err));
+        if answer != due {
+            return Err(self.disagreement(format!("the library answers {answer}, expected {due}")));
+        }
+        if let Some(change) = bundle.change() {
+            return Err(self.disagreement(format!("the bundle is changed, {change}")));
+        }
+        let column_change = if expected.is_some() { column.change() } else { column.change_around() };
+        if let Some(change) = column_change {
+            return Err(self.disagreement(format!("the column's buffer is changed where it must stay, {change}")));
+        }
+        Ok(column.bytes().to_vec())
+    }
+
+    fn same_column(&self, given: &[u8], expected: &[u8]) -> Result<(), String> {
+        if given == expected {
+            return Ok(());
+        }
+        Err(self.disagreement(format!("the library's column is {}, expected {}", hex(given), hex(expected))))
+    }
+}
+
+impl Call for Case {
+    fn compare(&self, random: &mut Random) -> Result<Option<Refusal>, String> {
+        match self.wanted.strips_for_rebuild(&self.bundle, self.column.len()) {
+            Err(refusal) => {
+                self.call(Some(refusal), random)?;
+                Ok(Some(refusal))
+            }
+            Ok(strips) => {
+                let given = self.call(None, random)?;
+                let expected = solving::lost_column(&self.wanted.profile, self.wanted.lost, &strips, random)
+                    .ok_or_else(|| self.disagreement("no encoded array has these strips".to_string()))?;
+                self.same_column(&given, &expected)?;
+                Ok(None)
+            }
+        }
+    }
+}
+
+/// Document 01's M7 and M8, and the edges of its bundle's length, as they are printed there.
+pub fn samples(random: &mut Random) -> Outcome {
+    let m8 = Wanted { lost: 3, ..SAMPLE_WANTED };
+    let m8_bundle = m8.bundle(&[0x00, 0x04, 0x04, 0x02].map(|byte| vec![byte]));
+    for (wanted, bundle, expected) in [(SAMPLE_WANTED, SAMPLE.to_vec(), [0x01, 0x04]), (m8, m8_bundle, [0x0C, 0x0C])] {
+        let case = Case { wanted, bundle, column: vec![0xEE; 2] };
+        let given = case.call(None, random)?;
+        case.same_column(&given, &expected)?;
+    }
+    for bundle in [SAMPLE[..56].to_vec(), [&SAMPLE[..], &[0]].concat()] {
+        Case { wanted: SAMPLE_WANTED, bundle, column: vec![0xEE; 2] }.call(Some(Refusal::BundleForm), random)?;
+    }
+    Ok(vec![Count::of("samples of rebuilds", 4)])
+}
+
+/// Bundles cut from encoded arrays: the column that was lost comes back. Each accepted (n, k, A) with each lost node
+/// and a short strip, then each with one node and strips at the ceiling.
+pub fn recovered(random: &mut Random) -> Outcome {
+    let mut all = every_lost_node(random);
+    all.extend(every_shape(511..=512, random));
+    let cases = all.len();
+    for wanted in all {
+        let profile = wanted.profile;
+        let data = random.bytes(profile.data_length());
+        let array = code::couple(&profile, &code::base_of(&profile, &data));
+        let case = Case::fitting(wanted, wanted.cut(&array), random);
+        let given = case.call(None, random)?;
+        case.same_column(&given, profile.column_of(&array, wanted.lost))?;
+    }
+    Ok(vec![Count::of("columns recovered", cases)])
+}
+
+/// Whole calls, each counted as accepted or refused.
+pub fn rebuilds(random: &mut Random) -> Outcome {
+    let mut tally = Tally::default();
+    single_strips(&mut tally, random)?;
+    any_strips(&mut tally, random)?;
+    every_byte_changed(&mut tally, random)?;
+    other_lengths(&mut tally, random)?;
+    other_forms(&mut tally, random)?;
+    other_strips(&mut tally, random)?;
+    other_nodes_and_scenarios(&mut tally, random)?;
+    other_profiles(&mut tally, random)?;
+    some_bytes_changed(&mut tally, random)?;
+    every_small_number(&mut tally, random)?;
+    refused_in_every_order(&mut tally, random)?;
+    mixed_calls(&mut tally, random)?;
+    tally.counts("rebuilds accepted", "rebuilds refused", &[1, 2, 3, 4, 5, 6, 7, 8, 9])
+}
+
+/// Random strips for these accepted or small numbers.
+fn random_strips(wanted: &Wanted, random: &mut Random) -> Vec<Vec<u8>> {
+    wanted.places().iter().map(|_| random.bytes(wanted.profile.s)).collect()
+}
+
+/// A bundle in order for these accepted or small numbers, with random strips.
+fn random_bundle(wanted: &Wanted, random: &mut Random) -> Vec<u8> {
+    wanted.bundle(&random_strips(wanted, random))
+}
+
+/// Each accepted (n, k, A) with strips that are zero but for one byte, in each strip.
+fn single_strips(tally: &mut Tally, random: &mut Random) -> Result<(), String> {
+    for wanted in every_shape(1..=1, random) {
+        let count = wanted.places().len();
+        for at in 0..count {
+            let mut strips = vec![vec![0]; count];
+            strips[at][0] = 1;
+            tally.compare(Case::fitting(wanted, wanted.bundle(&strips), random), random)?;
+        }
+    }
+    Ok(())
+}
+
+/// Each accepted (n, k, A) and each lost node with random strips, then some with strips at the ceiling.
+fn any_strips(tally: &mut Tally, random: &mut Random) -> Result<(), String> {
+    let mut all = every_lost_node(random);
+    all.extend(every_shape(511..=512, random).into_iter().step_by(8));
+    for wanted in all {
+        let bundle = random_bundle(&wanted, random);
+        tally.compare(Case::fitting(wanted, bundle, random), random)?;
+    }
+    Ok(())
+}
+
+/// Document 01's bundle and one with S = 3, with each byte changed to each other value.
+fn every_byte_changed(tally: &mut Tally, random: &mut Random) -> Result<(), String> {
+    let profile = Profile { n: 6, k: 3, rows: 3, t: 29, s: 3 };
+    let other = Wanted { profile, lost: 4, scenario: 0x0102_0304 };
+    let other_bundle = random_bundle(&other, random);
+    for (wanted, bundle) in [(SAMPLE_WANTED, SAMPLE.to_vec()), (other, other_bundle)] {
+        for at in 0..bundle.len() {
+            for change in 1..=255 {
+                let mut changed = bundle.clone();
+                changed[at] ^= change;
+                tally.compare(Case::fitting(wanted, changed, random), random)?;
+            }
+        }
+    }
+    Ok(())
+}
+
+/// Bundles cut short, inside a field or after one, and lengthened, also by a whole field; each with buffers for the
+/// column that fit and that do not.
+fn other_lengths(tally: &mut Tally, random: &mut Random) -> Result<(), String> {
+    for wanted in every_shape(1..=8, random) {
+        let bundle = random_bundle(&wanted, random);
+        let (length, field) = (bundle.len(), 9 + wanted.profile.s);
+        let column = wanted.profile.column_length();
+        let any = random.between(0, length - 1);
+        let mut all: Vec<Vec<u8>> =
+            [0, 1, 3, 9, 16, 17, any, length - field, length - 1, length].map(|to| bundle[..to].to_vec()).to_vec();
+        all.push([&bundle[..], &[0]].concat());
+        all.push([&bundle[..], &random.bytes(field)].concat());
+        all.push([&bundle[..], &bundle[length - field..]].concat());
+        all.push([&bundle[..17], &bundle[17 + field..]].concat());
+        all.push([&[0], &bundle[..]].concat());
+        for bundle in all {
+            for column_length in [column, column - 1, column + 1, 2 * column, wanted.profile.s, 0] {
+                tally.compare(Case::new(wanted, bundle.clone(), column_length, random), random)?;
+            }
+        }
+    }
+    Ok(())
+}
+
+/// Each field's tag and length changed, and fields parted elsewhere or in another order in a bundle whose total length
+/// is right.
+fn other_forms(tally: &mut Tally, random: &mut Random) -> Result<(), String> {
+    for wanted in every_shape(1..=4, random) {
+        let strips = random_strips(&wanted, random);
+        let count = 2 + strips.len();
+        for index in 0..count {
+            let start = if index < 2 { 9 * index } else { wanted.strip_field_start(index - 2) };
+            for (at, change) in [(0, 1), (0, 2), (0, 3), (0, 0x80), (1, 1), (1, 0x80), (2, 1), (2, 2), (2, 0xFF)] {
+                let mut bundle = wanted.bundle(&strips);
+                bundle[start + at] ^= change;
+                tally.compare(Case::fitting(wanted, bundle, random), random)?;
+            }
+
+            let next = (index + 1) % count;
+            let mut longer = wanted.fields(&strips);
+            let moved = longer[next].content.pop().expect("no field is empty");
+            longer[index].content.push(moved);
+            let mut exchanged = wanted.fields(&strips);
+            exchanged.swap(index, next);
+            for fields in [longer, exchanged] {
+                tally.compare(Case::fitting(wanted, joined(&fields), random), random)?;
+            }
+        }
+    }
+    Ok(())
+}
+
+/// Gives a strip of a bundle another place: another node, another row, or both.
+fn misplace(wanted: &Wanted, bundle: &mut [u8], index: usize, random: &mut Random) {
+    let at = wanted.strip_field_start(index) + 3;
+    let (node, row) = (random.between(1, 3) as u8, random.between(1, 255) as u8);
+    let (other_node, other_row) = random.one_of(&[(node, 0), (0, 1), (row, 0), (0, row), (node, 1)]);
+    bundle[at] ^= other_node;
+    bundle[at + 1] ^= other_row;
+}
+
+/// Gives a strip of a bundle another scenario number, which differs in one byte.
+fn make_stale(wanted: &Wanted, bundle: &mut [u8], index: usize, random: &mut Random) {
+    let at = wanted.strip_field_start(index) + 5 + random.between(0, 3);
+    let any = random.between(1, 255) as u8;
+    bundle[at] ^= random.one_of(&[1, 0x80, any]);
+}
+
+/// Exchanges two strips of a bundle with all of their fields.
+fn exchange(wanted: &Wanted, bundle: &mut [u8], one: usize, other: usize) {
+    let (one, other) = (wanted.strip_field_start(one), wanted.strip_field_start(other));
+    for at in 0..9 + wanted.profile.s {
+        bundle.swap(one + at, other + at);
+    }
+}
+
+/// For each accepted (n, k, A) and each two strips, before or after each other or the same: one stale and the other
+/// misplaced; both stale; both misplaced; the two exchanged, with one of them or another one stale.
+fn other_strips(tally: &mut Tally, random: &mut Random) -> Result<(), String> {
+    for wanted in every_shape(1..=3, random) {
+        let bundle = random_bundle(&wanted, random);
+        let count = wanted.places().len();
+        for (one, other) in (0..count).flat_map(|one| (0..count).map(move |other| (one, other))) {
+            let mut both = bundle.clone();
+            make_stale(&wanted, &mut both, one, random);
+            let mut all = vec![both.clone(), both.clone(), bundle.clone(), bundle.clone(), both];
+            misplace(&wanted, &mut all[0], other, random);
+            make_stale(&wanted, &mut all[1], other, random);
+            misplace(&wanted, &mut all[2], one, random);
+            misplace(&wanted, &mut all[2], other, random);
+            exchange(&wanted, &mut all[3], one, other);
+            make_stale(&wanted, &mut all[3], random.between(0, count - 1), random);
+            exchange(&wanted, &mut all[4], one, other);
+            for bundle in all {
+                tally.compare(Case::fitting(wanted, bundle, random), random)?;
+            }
+        }
+    }
+    Ok(())
+}
+
+/// A bundle cut for a node and wanted for another, or for another scenario: also with field 02 as it is wanted, so that
+/// the strips alone differ.
+fn other_nodes_and_scenarios(tally: &mut Tally, random: &mut Random) -> Result<(), String> {
+    for cut in every_lost_node(random) {
+        let bundle = random_bundle(&cut, random);
+        let scenario = cut.scenario;
+        let any = random.number() as u32;
+        let scenarios = [scenario ^ 1, scenario ^ 1 << 31, scenario ^ 1 << 8, scenario.swap_bytes(), !scenario, any];
+        let nodes = (0..cut.profile.n).map(|lost| Wanted { lost, ..cut });
+        for wanted in nodes.chain(scenarios.map(|scenario| Wanted { scenario, ..cut })) {
+            let mut patched = bundle.clone();
+            patched[12] = wanted.lost as u8;
+            patched[13..17].copy_from_slice(&wanted.scenario.to_be_bytes());
+            for bundle in [bundle.clone(), patched] {
+                if wanted != cut {
+                    tally.compare(Case::fitting(wanted, bundle, random), random)?;
+                }
+            }
+        }
+    }
+    Ok(())
+}
+
+/// A bundle cut for one profile and wanted for another: t and S alone changed, then each two accepted (n, k, A), also
+/// with field 01 as it is wanted where the length is the same, so that the places alone can differ.
+fn other_profiles(tally: &mut Tally, random: &mut Random) -> Result<(), String> {
+    for cut in every_shape(1..=4, random) {
+        let bundle = random_bundle(&cut, random);
+        let (t, s) = (cut.profile.t, cut.profile.s);
+        let other_t = if t == 255 { 2 } else { t + 1 };
+        for (t, s) in [(other_t, s), (t, s + 1), (t, s + 256), (other_t, s + 1)] {
+            let wanted = Wanted { profile: Profile { t, s, ..cut.profile }, ..cut };
+            tally.compare(Case::fitting(wanted, bundle.clone(), random), random)?;
+        }
+        for (n, k, rows) in code::all_accepted() {
+            let wanted = Wanted { profile: Profile { n, k, rows, ..cut.profile }, lost: cut.lost % n, ..cut };
+            if wanted == cut {
+                continue;
+            }
+            tally.compare(Case::fitting(wanted, bundle.clone(), random), random)?;
+            if wanted.bundle_length() == bundle.len() {
+                let mut patched = bundle.clone();
+                patched[3..6].copy_from_slice(&[n as u8, k as u8, rows as u8]);
+                tally.compare(Case::fitting(wanted, patched.clone(), random), random)?;
+                patched[12] = wanted.lost as u8;
+                tally.compare(Case::fitting(wanted, patched, random), random)?;
+            }
+        }
+    }
+    Ok(())
+}
+
+/// Bundles of any size with some bytes changed, most of them outside the strips.
+fn some_bytes_changed(tally: &mut Tally, random: &mut Random) -> Result<(), String> {
+    for round in 0..20 {
+        let longest = if round == 0 { 512 } else { 40 };
+        for wanted in every_shape(1..=longest, random) {
+            let mut bundle = random_bundle(&wanted, random);
+            for _ in 0..random.between(1, 3) {
+                let field = wanted.strip_field_start(random.between(0, wanted.places().len() - 1));
+                let (in_head, in_field) = (random.between(0, 16), field + random.between(0, 8));
+                let anywhere = random.between(0, bundle.len() - 1);
+                let at = random.one_of(&[in_head, in_field, in_field, in_field, in_field, anywhere]);
+                bundle[at] ^= random.between(1, 255) as u8;
+            }
+            tally.compare(Case::fitting(wanted, bundle, random), random)?;
+        }
+    }
+    Ok(())
+}
+
+/// A bundle in order for these numbers, or for what a narrower type leaves of them, with buffers for the column that
+/// fit and that do not; then other bytes.
+fn every_length(wanted: Wanted, tally: &mut Tally, random: &mut Random) -> Result<(), String> {
+    let small = small_like(&wanted);
+    let bundle = random_bundle(&small, random);
+    let column = small.profile.column_length();
+    let any = random.bytes(bundle.len());
+    let longer = [&bundle[..], &[0]].concat();
+    for (bundle, column_length) in [
+        (bundle.clone(), column),
+        (bundle.clone(), column.saturating_sub(1)),
+        (bundle, column + 1),
+        (any.clone(), column),
+        (any, column + 1),
+        (longer, column),
+        (Vec::new(), column),
+        (Vec::new(), 0),
+    ] {
+        tally.compare(Case::new(wanted, bundle, column_length, random), random)?;
+    }
+    Ok(())
+}
+
+/// All small numbers.
+fn every_small_number(tally: &mut Tally, random: &mut Random) -> Result<(), String> {
+    for (profile, lost) in small_numbers(random) {
+        every_length(Wanted { profile, lost, scenario: random_scenario(random) }, tally, random)?;
+    }
+    Ok(())
+}
+
+/// Every mixture of refusals 1, 2, 3, 4 and 5, also of none, with bundles that are in order and others.
+fn refused_in_every_order(tally: &mut Tally, random: &mut Random) -> Result<(), String> {
+    for (profile, lost) in numbers_in_every_order() {
+        every_length(Wanted { profile, lost, scenario: random_scenario(random) }, tally, random)?;
+    }
+    Ok(())
+}
+
+/// Several reasons to refuse at once, of all nine, each present or not.
+fn mixed_calls(tally: &mut Tally, random: &mut Random) -> Result<(), String> {
+    let accepted = code::all_accepted();
+    for _ in 0..100_000 {
+        let (n, k, rows) = random.one_of(&accepted);
+        let profile = Profile { s: random.between(1, 4), ..random_profile(n, k, rows, random) };
+        let cut = Wanted { profile, lost: random.between(0, n - 1), scenario: random_scenario(random) };
+        let mut wanted = cut;
+        let mut bundle = random_bundle(&cut, random);
+        let mut column_length = profile.column_length();
+        let strip = random.between(0, cut.places().len() - 1);
+        for _ in 0..random.between(1, 3) {
+            match random.between(0, 8) {
+                0 => replace_number(&profile, &mut wanted.profile, &mut wanted.lost, random),
+                1 => column_length = random.one_of(&[profile.column_length() - 1, profile.column_length() + 1]),
+                2 => bundle[random.one_of(&[0, 1, 2, 9, 10, 11])] ^= 1,
+                3 => bundle[cut.strip_field_start(strip) + random.between(0, 2)] ^= 1,
+                4 => bundle[random.one_of(&[3, 4, 5, 6, 7, 8, 12, 13, 14, 15, 16])] ^= 1,
+                5 | 6 => misplace(&cut, &mut bundle, random.between(strip, cut.places().len() - 1), random),
+                _ => make_stale(&cut, &mut bundle, random.between(0, strip), random),
+            }
+        }
+        tally.compare(Case::new(wanted, bundle, column_length, random), random)?;
+    }
+    Ok(())
+}

@@ -1,0 +1,6 @@
+pub mod Strips
+pub mod Answers
+pub mod Fit
+pub mod Found
+pub mod Compared
+pub mod Checked

@@ -1,0 +1,84 @@
+-- The laws of `tried`: two lists of tests in a row, a line for each of n things, and what an answer tells.
+use mathlib.Core.Path.{_≡_, refl, sym, ap, _∙_}
+use mathlib.Core.Bool.{Bool, true, false}
+use mathlib.Core.List.{List, [], _∷_, _++_}
+use Prim.Native.Nat.{ℕ, zero, suc, _<_, suc-le-suc}
+use native.Mathlib.Nat.{le-of-suc-le-suc, not-suc-le-zero, zero-lt-suc}
+use native.Mathlib.Omega.{arith}
+use Rattle.lists.specs.Listed.{listed}
+use Rattle.document.specs.declared.Refusal.{Refusal}
+use Rattle.document.specs.declared.Answer.the-variants.{Done, Refused}
+use Rattle.document.specs.Refusals.{Test, tried}
+
+-- one test, by its outcome
+module _ {ℓ} {X : Type ℓ} (refuse : Refusal → X) (test : Test) (tests : List Test) (x : X) where
+  pub tried-holds : test .holds ≡ true → tried (test ∷ tests) refuse x ≡ refuse (test .refusal)
+  unfolding tried
+  tried-holds e = simp e
+
+  pub tried-not : test .holds ≡ false → tried (test ∷ tests) refuse x ≡ tried tests refuse x
+  unfolding tried
+  tried-not e = simp e
+
+module _ {ℓ} {X : Type ℓ} (refuse : Refusal → X) where
+  pub tried-append : (xs ys : List Test) (x : X) → tried (xs ++ ys) refuse x ≡ tried xs refuse (tried ys refuse x)
+  unfolding tried
+  tried-append [] ys x = refl
+  tried-append (test ∷ xs) ys x = go (test .holds) refl (tried-append xs ys x)
+    where
+      go : (b : Bool) → test .holds ≡ b → tried (xs ++ ys) refuse x ≡ tried xs refuse (tried ys refuse x)
+          → tried (test ∷ (xs ++ ys)) refuse x ≡ tried (test ∷ xs) refuse (tried ys refuse x)
+      go true e rest =
+          tried-holds refuse test (xs ++ ys) x e ∙ sym (tried-holds refuse test xs (tried ys refuse x) e)
+      go false e rest =
+          tried-not refuse test (xs ++ ys) x e ∙ rest ∙ sym (tried-not refuse test xs (tried ys refuse x) e)
+
+  -- a line for each number below n: the first that holds is given, or else the rest is tried
+  pub tried-first : (n : ℕ) (T : ℕ → Test) (rest : List Test) (x : X) (i : ℕ) → i < n
+      → ((e : ℕ) → e < i → T e .holds ≡ false) → T i .holds ≡ true
+      → tried (listed n T ++ rest) refuse x ≡ refuse (T i .refusal)
+  unfolding listed
+  tried-first zero T rest x i l before here = absurd (not-suc-le-zero l)
+  tried-first (suc n) T rest x zero l before here =
+      tried-holds refuse (T 0) (listed n (λ e. T (suc e)) ++ rest) x here
+  tried-first (suc n) T rest x (suc i) l before here =
+      tried-not refuse (T 0) (listed n (λ e. T (suc e)) ++ rest) x (before 0 (zero-lt-suc i))
+      ∙ tried-first n (λ e. T (suc e)) rest x i (le-of-suc-le-suc l) (λ e h. before (suc e) (suc-le-suc h)) here
+
+  pub tried-none : (n : ℕ) (T : ℕ → Test) (rest : List Test) (x : X) → ((e : ℕ) → e < n → T e .holds ≡ false)
+      → tried (listed n T ++ rest) refuse x ≡ tried rest refuse x
+  unfolding listed
+  tried-none zero T rest x h = refl
+  tried-none (suc n) T rest x h =
+      tried-not refuse (T 0) (listed n (λ e. T (suc e)) ++ rest) x (h 0 (zero-lt-suc n))
+      ∙ tried-none n (λ e. T (suc e)) rest x (λ e l. h (suc e) (suc-le-suc l))
+
+  -- what the answer of the tests alone tells of a call that tries them
+  module _ (v : ℕ) (z : X) where
+    pub tried-refused : (tests : List Test) (r : Refusal) → tried tests Refused (Done v) ≡ Refused r
+        → tried tests refuse z ≡ refuse r
+    unfolding tried
+    tried-refused [] r e = absurd (let d : _≡_ {A = ℕ} 0 1 = cc in omega arith)
+    tried-refused (test ∷ tests) r e = go (test .holds) refl (tried-refused tests r)
+      where
+        go : (b : Bool) → test .holds ≡ b → (tried tests Refused (Done v) ≡ Refused r → tried tests refuse z ≡ refuse r)
+            → tried (test ∷ tests) refuse z ≡ refuse r
+        go true h rest =
+            let d : Refused (test .refusal) ≡ Refused r = sym (tried-holds Refused test tests (Done v) h) ∙ e in
+            let s : test .refusal ≡ r = cc in
+            tried-holds refuse test tests z h ∙ ap refuse s
+        go false h rest =
+            tried-not refuse test tests z h ∙ rest (sym (tried-not Refused test tests (Done v) h) ∙ e)
+
+    pub tried-passed : (tests : List Test) (u : ℕ) → tried tests Refused (Done v) ≡ Done u → tried tests refuse z ≡ z
+    unfolding tried
+    tried-passed [] u e = refl
+    tried-passed (test ∷ tests) u e = go (test .holds) refl (tried-passed tests u)
+      where
+        go : (b : Bool) → test .holds ≡ b → (tried tests Refused (Done v) ≡ Done u → tried tests refuse z ≡ z)
+            → tried (test ∷ tests) refuse z ≡ z
+        go true h rest =
+            let d : Refused (test .refusal) ≡ Done u = sym (tried-holds Refused test tests (Done v) h) ∙ e in
+            absurd (let s : _≡_ {A = ℕ} 0 1 = cc in omega arith)
+        go false h rest =
+            tried-not refuse test tests z h ∙ rest (sym (tried-not Refused test tests (Done v) h) ∙ e)

@@ -1,0 +1,131 @@
+-- The values of answers are small: a strip's index is below the number of planned places, and a bundle is short.
+use mathlib.Core.Path.{_≡_, refl}
+use mathlib.Core.Bool.{Bool, true, false, _&&_, not}
+use mathlib.Core.List.{List, [], _∷_, _++_}
+use Prim.Native.Nat.{ℕ, zero, suc, _*_, _≤_, _<_, zero-le, suc-le-suc}
+use native.Mathlib.Nat.{zero-lt-suc, mul-le-mul}
+use native.Mathlib.Omega.{arith}
+use lib.Dec.{eqb, ltb}
+use lib.ListN.{length}
+use borrow.Author.Tests.{ltb-true, not-false}
+use Rattle.lists.specs.Listed.{listed}
+use Rattle.document.specs.declared.Numbers.{Numbers}
+use Rattle.document.specs.declared.Profile.{Profile}
+use Rattle.document.specs.declared.Node.{Node}
+use Rattle.document.specs.declared.Recording.{Recording}
+use Rattle.document.specs.declared.Answer.{Answer}
+use Rattle.document.specs.declared.Answer.the-variants.{Done, Refused}
+use Rattle.document.specs.Refusals.{Test, tried, indexOf, answerValue}
+use Rattle.document.specs.Profile.{maxStrip, Accepted, profileTests, profileOf}
+use Rattle.document.specs.Encoding.{encodeTests, encodeOf}
+use Rattle.document.specs.Plan.{planned, maxPlaces, planTests, planOf}
+use Rattle.document.specs.Bundle.{
+  stripFieldLength,
+  bundleLength,
+  longestBundle,
+  bundleOf,
+  writeTests,
+  writeOf,
+  bundleTests,
+}
+use Rattle.document.specs.Rebuild.{rebuildTests, rebuildOf}
+use Rattle.document.proofs.Decides.{decides-eq, decides-both}
+use Rattle.document.proofs.Accepts.{none-refused, accepted}
+use Rattle.document.proofs.Price.{few-places}
+use Rattle.document.proofs.Bundle.{bundle-length}
+
+-- Of a list of tests: each refusal comes with an index of at most `most`, if those before it were not given, and so does
+-- the value v, if none was.
+data Small (most v : ℕ) : List Test → Type 0 where
+  done : v ≤ most → Small most v []
+  next : {test : Test} {tests : List Test} → indexOf (test .refusal) ≤ most
+      → (test .holds ≡ false → Small most v tests) → Small most v (test ∷ tests)
+
+module _ {X : Type 0} (x y : X) (v : ℕ) where
+  abbrev outcomeOf : List Test → Answer × X
+  outcomeOf tests = tried tests (λ r. (Refused r, x)) (Done v, y)
+
+  value-small : {most : ℕ} {tests : List Test} → Small most v tests → answerValue (outcomeOf tests .0) ≤ most
+  unfolding tried answerValue
+  value-small (done h) = h
+  value-small {most} (next {test} {tests} h rest) = go (test .holds) refl (λ e. value-small (rest e))
+    where
+      go : (b : Bool) → test .holds ≡ b → (test .holds ≡ false → answerValue (outcomeOf tests .0) ≤ most)
+          → answerValue (outcomeOf (record { refusal = test .refusal; holds = b } ∷ tests) .0) ≤ most
+      go true e r = h
+      go false e r = r e
+
+-- a test for each of n strips
+small-listed : {most v : ℕ} (n : ℕ) (T : ℕ → Test) → ((i : ℕ) → i < n → indexOf (T i .refusal) ≤ most)
+    → {tests : List Test} → Small most v tests → Small most v (listed n T ++ tests)
+unfolding listed
+small-listed zero T h rest = rest
+small-listed (suc n) T h rest =
+    next (h 0 (zero-lt-suc n)) (λ e. small-listed n (λ i. T (suc i)) (λ i l. h (suc i) (suc-le-suc l)) rest)
+
+small-last : {most v : ℕ} (n : ℕ) (T : ℕ → Test) → ((i : ℕ) → i < n → indexOf (T i .refusal) ≤ most) → v ≤ most
+    → Small most v (listed n T)
+unfolding listed
+small-last zero T h value = done value
+small-last (suc n) T h value =
+    next (h 0 (zero-lt-suc n)) (λ e. small-last n (λ i. T (suc i)) (λ i l. h (suc i) (suc-le-suc l)) value)
+
+module _ (p : Numbers) where
+  -- the tests of a profile, before others that may count on it
+  small-profile : {most v : ℕ} {tests : List Test} → (Accepted (profileOf p) → Small most v tests)
+      → Small most v (profileTests p ++ tests)
+  unfolding profileTests indexOf
+  small-profile rest =
+      next zero-le (λ shape. next zero-le (λ constant. next zero-le (λ strip.
+      rest (accepted p (profileOf p)
+      (none-refused p (not-false _ shape) (not-false _ constant) (not-false _ strip)) .1))))
+
+  pub encode-value : (d x : List ℕ) → answerValue (encodeOf p d x .0) ≤ 0
+  unfolding encodeOf encodeTests indexOf
+  encode-value d x = value-small x _ 0 (small-profile (λ acc. next zero-le (λ e. done zero-le)))
+
+  module _ (lost : ℕ) where
+    abbrev node : Node
+    node = record { 0 = lost }
+
+    abbrev places : ℕ
+    places = length (planned (profileOf p) node)
+
+    -- the lost node's test did not hold
+    few : Accepted (profileOf p) → not (ltb lost (p .n)) ≡ false → places ≤ maxPlaces
+    few acc e = few-places (profileOf p) acc node (ltb-true lost (p .n) (not-false _ e))
+
+    pub plan-value : (x : List ℕ) → answerValue (planOf p lost x .0) ≤ maxPlaces
+    unfolding planOf planTests indexOf
+    plan-value x = value-small x _ _ (small-profile (λ acc. next zero-le (λ e. next zero-le (λ f. done (few acc e)))))
+
+    pub write-value : (r : Recording) (x b : List ℕ) → answerValue (writeOf p lost r x b .0) ≤ longestBundle
+    unfolding writeOf writeTests indexOf
+    write-value r x b =
+        value-small b _ _
+        (small-profile (λ acc. next zero-le (λ e. next zero-le (λ f. done (size acc e (not-false _ f))))))
+      where
+        size : Accepted (profileOf p) → not (ltb lost (p .n)) ≡ false
+            → eqb (length x) (p .n * p .a * p .s) && eqb (length b) (bundleLength (profileOf p) node) ≡ true
+            → length (bundleOf (profileOf p) node r x) ≤ longestBundle
+        size acc e f =
+            let stored : length x ≡ p .n * p .a * p .s =
+            decides-both _ _ (decides-eq (length x) (p .n * p .a * p .s)) (decides-eq (length b) _) .0 f .0 in
+            let fields : places * stripFieldLength (p .s) ≤ maxPlaces * stripFieldLength maxStrip =
+            mul-le-mul {n₁ = places} {m₁ = stripFieldLength (p .s)} {n₂ = maxPlaces} {m₂ = stripFieldLength maxStrip}
+            (few acc e) (omega (arith, acc .short)) in
+            omega (
+              arith,
+              bundle-length (profileOf p) r x acc stored node (ltb-true lost (p .n) (not-false _ e)),
+            )
+
+    pub rebuild-value : (r : Recording) (b y : List ℕ) → answerValue (rebuildOf p lost r b y .0) < maxPlaces
+    unfolding rebuildOf rebuildTests bundleTests indexOf
+    rebuild-value r b y =
+        suc-le-suc
+        (value-small y _ 0
+        (small-profile (λ acc. next zero-le (λ e. next zero-le (λ f. next zero-le (λ g. next zero-le (λ h.
+        small-listed places _ (small acc e) (small-last places _ (small acc e) zero-le))))))))
+      where
+        small : Accepted (profileOf p) → not (ltb lost (p .n)) ≡ false → (i : ℕ) → i < places → i ≤ 37
+        small acc e i l = omega (arith, few acc e)

@@ -1,0 +1,29 @@
+-- `exports::whaupfield_write_bundle` meets its contract: the answer of writing a bundle, packed.
+use mathlib.Core.Path.{ap, _∙_}
+use Prim.Native.Nat.{ℕ}
+use native.Mathlib.Omega.{arith}
+use borrow.Author.Needs.{needs}
+use Rattle.document.specs.Bundle.{longestBundle}
+use Rattle.document.proofs.Values.{write-value}
+use Rattle.exports.specs.Packed.{packedWith}
+use Rattle.exports.proofs.Values.{packable}
+use Rattle.exports.proofs.whaupfield_write_bundle.Statement.{statement}
+use Rattle.exports.proofs.whaupfield_write_bundle.Tie as tie
+
+write-bundle-requires : tie.Need-write-bundle-requires
+write-bundle-requires c κs = search needs
+
+pack-requires : tie.Need-pack-requires
+pack-requires c κs =
+    packable _ _ _ (c .before .before .write-bundle .ensures) longestBundle (omega arith) (write-value _ _ _ _ _)
+
+same-length : tie.Need-same-length
+same-length c = search needs
+
+returns : tie.Need-returns
+returns c =
+    let e = c .before .before .before in
+    ap (λ (n : ℕ). (n, e .write-bundle .last .1 .1 .1 .1 .0)) (c .pack .ensures) ∙ ap packedWith (e .write-bundle .ensures)
+
+pub whaupfield-write-bundle-spec : {M : Type 1} → statement M
+whaupfield-write-bundle-spec = tie.close (tie.spec write-bundle-requires pack-requires same-length returns)

@@ -1,0 +1,48 @@
+-- `fields::put_opening` meets its contract.
+use mathlib.Core.Path.{ap}
+use mathlib.Core.List.{List, [], _∷_}
+use Prim.Native.Nat.{ℕ}
+use borrow.Author.Needs.{needs}
+use lib.ListN.{getD}
+use Rattle.lists.proofs.Put.{wrote-same}
+use Rattle.fields.specs.Fields.{opening, twoBytes}
+use Rattle.fields.proofs.put_opening.Statement.{statement}
+use Rattle.fields.proofs.put_opening.Tie as tie
+
+two-bytes-requires : tie.Need-two-bytes-requires
+two-bytes-requires c κs = search needs
+
+array-read-t10 : tie.Need-array-read-t10
+array-read-t10 c = search needs
+
+array-read-t13 : tie.Need-array-read-t13
+array-read-t13 c = search needs
+
+slice-aggregate-put-bytes : tie.Need-slice-aggregate-put-bytes
+slice-aggregate-put-bytes c = search needs
+
+put-bytes-requires : tie.Need-put-bytes-requires
+put-bytes-requires c κs = search needs
+
+same-length : tie.Need-same-length
+same-length c = search needs
+
+returns : tie.Need-returns
+unfolding opening twoBytes
+returns c =
+    let w = c .before .before in
+    let t = w .before .before .before in
+    let tag = t .before .before .args .tag in
+    wrote-same (ap (λ (s : List ℕ). tag ∷ getD s 0 0 ∷ getD s 1 0 ∷ []) (t .two-bytes .ensures)) (w .put-bytes .ensures)
+
+pub put-opening-spec : {M : Type 1} → statement M
+put-opening-spec =
+    tie.close
+    (tie.spec
+    two-bytes-requires
+    array-read-t10
+    array-read-t13
+    slice-aggregate-put-bytes
+    put-bytes-requires
+    same-length
+    returns)

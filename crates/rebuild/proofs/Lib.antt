@@ -1,0 +1,9 @@
+pub mod Folded
+pub mod Given
+pub mod Factors
+pub mod Coefficients
+pub mod Row
+pub mod Index
+pub mod Parts
+pub mod Column
+pub mod Answers

@@ -1,0 +1,27 @@
+-- `rebuild::divided_weights` meets its contract, by what the functions it calls ensure.
+use mathlib.Core.Path.{ap, _∙_}
+use mathlib.Core.List.{List}
+use Prim.Native.Nat.{ℕ}
+use borrow.Author.Needs.{needs}
+use Rattle.gf256.specs.Field.{quotientsOf}
+use Rattle.rebuild.proofs.divided_weights.Statement.{statement}
+use Rattle.rebuild.proofs.divided_weights.Tie as tie
+
+weights-requires : tie.Need-weights-requires
+weights-requires c κs = search needs
+
+divide-all-requires : tie.Need-divide-all-requires
+divide-all-requires c κs = search needs
+
+same-length : tie.Need-same-length
+same-length c = search needs
+
+returns : tie.Need-returns
+returns c =
+    let d = c .before .before in
+    let w = d .before .before .before .before in
+    let s = w .before .before .before .before .before .before in
+    d .divide-all .ensures ∙ ap (λ (xs : List ℕ). quotientsOf xs (s .args .pairs .now)) (w .weights .ensures)
+
+pub divided-weights-spec : {M : Type 1} → statement M
+divided-weights-spec = tie.close (tie.spec weights-requires divide-all-requires same-length returns)

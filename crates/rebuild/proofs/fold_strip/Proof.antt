@@ -1,0 +1,204 @@
+-- `rebuild::fold_strip` meets its contract: the strip of row c stands at place m, and the partner's at the place after.
+use mathlib.Core.Path.{_≡_, sym, ap, ap₂, _∙_}
+use mathlib.Core.Bool.{true, false}
+use mathlib.Core.List.{List, [], _∷_}
+use Prim.Native.Nat.{ℕ, _+_, _-_, _*_, _%_, _≤_, _<_}
+use native.Mathlib.Omega.{arith}
+use borrow.Author.Needs.{needs}
+use lib.ListN.{length, getD, take, drop}
+use Rattle.algebra.specs.Coupling.{factor}
+use Rattle.strips.specs.Strips.{stripAt, addedScaled}
+use Rattle.strips.proofs.Strip.{strip-length, strip-part}
+use Rattle.document.specs.Bytes.{bytes, number}
+use Rattle.document.specs.Encoding.{constantOf}
+use Rattle.document.specs.Plan.{isOffDiagonal, planned}
+use Rattle.document.specs.Rebuild.{givenAt}
+use Rattle.document.proofs.Price.{planned-price}
+use Rattle.plan.specs.Steps.{inStep, placesAt}
+use Rattle.rebuild.specs.Folded.{foldedOf}
+use Rattle.rebuild.proofs.Given.{one-place, two-places, off-column, single-folded, pair-folded}
+use Rattle.rebuild.proofs.fold_strip.Statement.{statement}
+use Rattle.rebuild.proofs.fold_strip.Tie as tie
+
+-- the strip of place m lies within src
+module _ (s : tie.Start) where
+  few-places : length (planned (s .args .p) (s .args .f)) < 64
+  few-places =
+      omega (arith, planned-price (s .args .p) (s .pre .0 .0) (s .args .f) (s .pre .0 .1), s .pre .0 .0 .shape)
+
+  here-within : s .args .first + s .args .m * s .args .stride + s .args .p .s ≤ length (s .args .src .now)
+  unfolding placesAt
+  here-within = s .pre .1 .0 .reach (s .args .m) (omega (arith, s .pre .1 .1 .inside))
+
+-- the strip as it is copied
+module _ (c : tie.After-copy) where
+  abbrev start : tie.Start
+  start = c .before .before .before .before
+
+  small : (e : ℕ) → getD (start .args .src .now) e 0 < 256
+  small e = omega (arith, c .before .before .shared-slice-known .given e)
+
+  copied : c .copy .last .0
+      ≡ stripAt (start .args .src .now) (start .args .first + start .args .m * start .args .stride) (start .args .p .s)
+  copied =
+      c .copy .ensures
+      ∙ ap (stripAt (start .args .src .now) (start .args .first + start .args .m * start .args .stride))
+      (start .pre .0 .2)
+
+-- where the test says that node j is off the diagonal
+module _ (t : tie.Then1) where
+  abbrev copy : tie.After-copy
+  copy = t .before .before .before .before
+
+  abbrev s : tie.Start
+  s = start copy
+
+  off : isOffDiagonal (s .args .p .a) (s .args .f) (s .args .j) ≡ true
+  unfolding inStep
+  off = sym (t .before .in-step .ensures) ∙ t .if1 .taken
+
+  two : s .args .m + 2 ≡ s .args .m + length (placesAt (s .args .p .a) (s .args .f) (s .args .j))
+  two = two-places (s .args .p .a) (s .args .f) (s .args .j) (s .args .m) off
+
+  abbrev from : ℕ
+  from = s .args .first + (s .args .m + 1) * s .args .stride
+
+  next-within : from + s .args .p .s ≤ length (s .args .src .now)
+  next-within = s .pre .1 .0 .reach (s .args .m + 1) (omega (arith, s .pre .1 .1 .inside, two))
+
+  partner : take (from + s .args .p .s - from) (drop from (s .args .src .now))
+      ≡ stripAt (s .args .src .now) from (s .args .p .s)
+  partner = strip-part (s .args .src .now) from (s .args .p .s) next-within
+
+  as-long : length (take (from + s .args .p .s - from) (drop from (s .args .src .now))) ≡ length (copy .copy .last .0)
+  as-long =
+      ap length partner ∙ strip-length (s .args .src .now) from (s .args .p .s)
+      ∙ sym (ap length (copied copy) ∙ strip-length (s .args .src .now) _ (s .args .p .s))
+
+  folded : {z : List ℕ}
+      → z ≡ addedScaled (number (factor bytes (constantOf (s .args .p)) (s .args .f .0 % s .args .p .a)
+      (s .args .j % s .args .p .a))) 0 (take (from + s .args .p .s - from) (drop from (s .args .src .now)))
+      (copy .copy .last .0)
+      → z ≡ foldedOf (s .args .p) (s .args .f)
+      (givenAt (planned (s .args .p) (s .args .f)) (s .args .src .now) (s .args .first) (s .args .stride))
+      (s .args .j ∷ [])
+  folded e =
+      e ∙ ap₂ (addedScaled _ 0) partner (copied copy)
+      ∙ pair-folded (s .args .p) (s .pre .0 .0) (s .args .f) (s .pre .0 .1) (s .args .src .now) (small copy)
+      (s .args .first) (s .args .stride) (s .args .j) (s .args .m) (s .pre .1 .1) off
+
+mul-copy : tie.Need-mul-copy
+mul-copy c = omega (arith, here-within (c .before .before .before))
+
+add-copy : tie.Need-add-copy
+add-copy c = omega (arith, here-within (c .before .before .before))
+
+copy-requires : tie.Need-copy-requires
+copy-requires c κs = let s = c .before .before .before in omega (arith, here-within s, s .pre .0 .2)
+
+in-step-requires : tie.Need-in-step-requires
+in-step-requires c κs = search needs
+
+add-from : tie.Need-add-from
+add-from c = omega (arith, few-places (s c), s c .pre .1 .1 .inside, two c)
+
+mul-from : tie.Need-mul-from
+mul-from c = omega (arith, next-within c)
+
+add-from-2 : tie.Need-add-from-2
+add-from-2 c = omega (arith, next-within c)
+
+add-end : tie.Need-add-end
+add-end c = omega (arith, next-within (c .before))
+
+sub-add-partner : tie.Need-sub-add-partner
+sub-add-partner c = search needs
+
+part-add-partner-start : tie.Need-part-add-partner-start
+part-add-partner-start c = search needs
+
+part-add-partner-end : tie.Need-part-add-partner-end
+part-add-partner-end c = next-within (c .before .before)
+
+rem-add-partner : tie.Need-rem-add-partner
+rem-add-partner c = search needs
+
+rem-add-partner-2 : tie.Need-rem-add-partner-2
+rem-add-partner-2 c = search needs
+
+add-partner-requires : tie.Need-add-partner-requires
+add-partner-requires c κs =
+    let t = c .before .before .before .before .before .before in
+    let a = s t .args in
+    (s t .pre .0 .0, off-column (a .p .a) (a .f) (a .j) (off t), as-long t)
+
+add-result : tie.Need-add-result
+add-result c =
+    let t = c .before .before .before .before .before .before .before .before .before in
+    omega (arith, few-places (s t), s t .pre .1 .1 .inside, two t)
+
+same-length : tie.Need-same-length
+same-length c = search needs
+
+returns : tie.Need-returns
+returns c =
+    let t = c .before .before .before .before .before .before .before .before .before in
+    (two t, folded t (c .before .before .add-partner .ensures))
+
+-- where it says that it is not
+on : (c : tie.Else1)
+    → let a = start (c .before .before .before .before) .args in
+    isOffDiagonal (a .p .a) (a .f) (a .j) ≡ false
+unfolding inStep
+on c = sym (c .before .in-step .ensures) ∙ c .if1 .left
+
+single-place : (c : tie.Else1)
+    → let a = start (c .before .before .before .before) .args in
+    a .m + 1 ≡ a .m + length (placesAt (a .p .a) (a .f) (a .j))
+single-place c =
+    let a = start (c .before .before .before .before) .args in
+    one-place (a .p .a) (a .f) (a .j) (a .m) (on c)
+
+add-result-2 : tie.Need-add-result-2
+add-result-2 c =
+    let b = start (c .before .before .before .before) in
+    omega (arith, few-places b, b .pre .1 .1 .inside, single-place c)
+
+same-length-2 : tie.Need-same-length-2
+same-length-2 c = search needs
+
+returns-2 : tie.Need-returns-2
+returns-2 c =
+    let k = c .before .before .before .before in
+    let b = start k in
+    let a = b .args in (
+      single-place c,
+      copied k
+          ∙ single-folded (a .p) (b .pre .0 .0) (a .f) (b .pre .0 .1) (a .src .now) (small k) (a .first) (a .stride)
+          (a .j) (a .m) (b .pre .1 .1) (on c),
+    )
+
+pub fold-strip-spec : {M : Type 1} → statement M
+fold-strip-spec =
+    tie.close
+    (tie.spec
+    mul-copy
+    add-copy
+    copy-requires
+    in-step-requires
+    add-from
+    mul-from
+    add-from-2
+    add-end
+    sub-add-partner
+    part-add-partner-start
+    part-add-partner-end
+    rem-add-partner
+    rem-add-partner-2
+    add-partner-requires
+    add-result
+    same-length
+    returns
+    add-result-2
+    same-length-2
+    returns-2)

@@ -1,0 +1,22 @@
+-- `rebuild::own_scale` meets its contract, by what the functions it calls ensure.
+use mathlib.Core.Path.{sym, ap, _∙_}
+use borrow.Author.Needs.{needs}
+use Rattle.gf256.specs.Field.{inverse}
+use Rattle.document.proofs.Bytes.{number-inv}
+use Rattle.rebuild.proofs.own_scale.Statement.{statement}
+use Rattle.rebuild.proofs.own_scale.Tie as tie
+
+rem-factor-at : tie.Need-rem-factor-at
+rem-factor-at c = search needs
+
+factor-at-requires : tie.Need-factor-at-requires
+factor-at-requires c κs = search needs
+
+inverse-requires : tie.Need-inverse-requires
+inverse-requires c κs = search needs
+
+returns : tie.Need-returns
+returns c = c .inverse .ensures ∙ ap inverse (c .before .factor-at .ensures) ∙ sym (number-inv _)
+
+pub own-scale-spec : {M : Type 1} → statement M
+own-scale-spec = tie.close (tie.spec rem-factor-at factor-at-requires inverse-requires returns)

@@ -1,0 +1,141 @@
+-- `rebuild::rebuild_row` meets its contract: the folded strips lie past the group's, and strip `own` is one of these.
+use mathlib.Core.Path.{_≡_, ap, _∙_}
+use mathlib.Core.List.{List}
+use Prim.Native.Nat.{ℕ, _+_, _-_, _*_, _≤_}
+use native.Mathlib.Omega.{arith}
+use borrow.Author.Needs.{needs}
+use lib.ListN.{length, take, drop}
+use Rattle.strips.specs.Strips.{combinationOf, stripAt}
+use Rattle.strips.proofs.Strip.{strip-lent}
+use Rattle.document.specs.declared.Profile.{Profile}
+use Rattle.document.proofs.Bounds.{room, column-bound}
+use Rattle.rebuild.proofs.Row.{row-lost, row-other}
+use Rattle.rebuild.proofs.rebuild_row.Statement.{statement}
+use Rattle.rebuild.proofs.rebuild_row.Tie as tie
+
+-- the sum of the folded strips
+module _ (c : tie.After-combine) where
+  abbrev given : tie.Start
+  given = c .before .before .before .before .before .before
+
+  -- the combination, of m bytes
+  abbrev combination : ℕ → List ℕ
+  combination m =
+      let p = given .args .p in
+      combinationOf (given .args .coefficients .now) (given .args .folded .now) ((p .a - 1) * p .s) (p .s) m
+
+  summed : c .combine .last .0 ≡ combination (given .args .p .s)
+  summed = c .combine .ensures ∙ ap combination (given .pre .0 .1)
+
+-- where strip `own` lies
+module _ (c : tie.Then1) where
+  abbrev start : tie.Start
+  start = c .before .before .before .before .before .before .before .before .before .before .before
+
+  abbrev p : Profile
+  p = start .args .p
+
+  abbrev from : ℕ
+  from = start .args .own * p .s
+
+  within : from + p .s ≤ (p .a - 1) * p .s
+  within = room (start .args .own) (p .a - 1) (p .s) (start .pre .1 .1 (c .if1 .taken))
+
+  bound : from + p .s ≤ 2048
+  bound =
+      let rows = room (p .a - 1) (p .a) (p .s) (omega (arith, start .pre .0 .0 .shape .two-rows)) in
+      omega (arith, within, rows, column-bound p (start .pre .0 .0))
+
+  inside : from + p .s ≤ length (start .args .folded .now)
+  inside = omega (arith, within, start .pre .1 .0)
+
+  lent : take (from + p .s - from) (drop from (start .args .folded .now))
+      ≡ stripAt (start .args .folded .now) from (p .s)
+  lent =
+      let e : from + p .s - from ≡ p .s = omega arith in
+      ap (λ (m : ℕ). take m (drop from (start .args .folded .now))) e
+      ∙ strip-lent (start .args .folded .now) from (p .s) inside
+
+sub-combine : tie.Need-sub-combine
+sub-combine c = search needs
+
+mul-combine : tie.Need-mul-combine
+mul-combine c = search needs
+
+combine-requires : tie.Need-combine-requires
+combine-requires c κs =
+    let s = c .before .before .before .before .before in
+    let p = s .args .p in
+    let acc = s .pre .0 .0 in
+    record {
+      few = omega (arith, s .pre .0 .2, acc .shape .some-parity, acc .shape .few-nodes);
+      short = omega (arith, s .pre .0 .1, acc .short);
+      reach = λ q h.
+          let r = room q (p .k) (p .s) (omega (arith, s .pre .0 .2)) in
+          omega (arith, r, s .pre .0 .1, s .pre .1 .0);
+    }
+
+rem-if1 : tie.Need-rem-if1
+rem-if1 c = search needs
+
+mul-from : tie.Need-mul-from
+mul-from c = omega (arith, bound c)
+
+add-end : tie.Need-add-end
+add-end c = omega (arith, bound c)
+
+own-scale-requires : tie.Need-own-scale-requires
+own-scale-requires c κs = search needs
+
+sub-add-scaled : tie.Need-sub-add-scaled
+sub-add-scaled c = search needs
+
+part-add-scaled-start : tie.Need-part-add-scaled-start
+part-add-scaled-start c = search needs
+
+part-add-scaled-end : tie.Need-part-add-scaled-end
+part-add-scaled-end c = inside (c .before .before)
+
+add-scaled-requires : tie.Need-add-scaled-requires
+add-scaled-requires c κs = search needs
+
+same-length : tie.Need-same-length
+same-length c = search needs
+
+returns : tie.Need-returns
+returns c =
+    let t = c .before .before .before .before .before .before in
+    let s = start t in
+    c .before .before .add-scaled .ensures
+    ∙ row-other (s .args .p) (s .args .f) (s .args .i) (s .args .own) (s .args .coefficients .now)
+    (s .args .folded .now) (summed (t .before .before .before .before .before)) (lent t)
+    (c .before .before .before .before .before .own-scale .ensures) (t .if1 .taken)
+
+same-length-2 : tie.Need-same-length-2
+same-length-2 c = search needs
+
+returns-2 : tie.Need-returns-2
+returns-2 c =
+    let s = c .before .before .before .before .before .before .before .before .before .before .before in
+    row-lost (s .args .p) (s .args .f) (s .args .i) (s .args .own) (s .args .coefficients .now) (s .args .folded .now)
+    (summed (c .before .before .before .before .before)) (c .if1 .left)
+
+pub rebuild-row-spec : {M : Type 1} → statement M
+rebuild-row-spec =
+    tie.close
+    (tie.spec
+    sub-combine
+    mul-combine
+    combine-requires
+    rem-if1
+    mul-from
+    add-end
+    own-scale-requires
+    sub-add-scaled
+    part-add-scaled-start
+    part-add-scaled-end
+    add-scaled-requires
+    same-length
+    returns
+    same-length-2
+    returns-2)

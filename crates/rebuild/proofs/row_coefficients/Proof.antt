@@ -1,0 +1,135 @@
+-- `rebuild::row_coefficients` meets its contract: the part of the array that was lent holds the weights, divided by
+-- the determinants, and they are scaled into zeros.
+use mathlib.Core.Path.{_≡_, sym, ap, subst, _∙_}
+use mathlib.Core.List.{List, _++_}
+use Prim.Native.Nat.{ℕ, _<_}
+use native.Mathlib.Omega.{arith}
+use borrow.Author.Needs.{needs}
+use lib.ListN.{length, take, drop, replicate}
+use lib.Seq.{length-take-le}
+use Rattle.gf256.specs.Field.{quotientsOf, NoZero}
+use Rattle.lists.specs.Listed.{listed}
+use Rattle.lists.proofs.Lent.{front-fits, front}
+use Rattle.document.proofs.Bounds.{group-within}
+use Rattle.coefficients.specs.Weights.{weightsOf}
+use Rattle.rebuild.specs.Rows.{memberAt, pairsOf}
+use Rattle.rebuild.proofs.Factors.{pairs-length, pairs-no-zero}
+use Rattle.rebuild.proofs.Coefficients.{shares-length, coefficients-scaled}
+use Rattle.rebuild.proofs.row_coefficients.Statement.{statement}
+use Rattle.rebuild.proofs.row_coefficients.Tie as tie
+
+-- node i of the group is a node
+below : (s : tie.Start) → memberAt (s .args .p) (s .args .f) (s .args .i) < 24
+below s =
+    let p = s .args .p in
+    let acc = s .pre .0 .0 in
+    let within = group-within p acc (s .args .f .0) (s .pre .0 .1) in
+    omega (arith, within, s .pre .0 .2, acc .shape .few-nodes)
+
+div-at : tie.Need-div-at
+div-at c = search needs
+
+mul-at : tie.Need-mul-at
+mul-at c = omega (arith, below (c .before .before .before .before .before .before .before))
+
+add-at : tie.Need-add-at
+add-at c = omega (arith, below (c .before .before .before .before .before .before .before))
+
+cast-divided-weights : tie.Need-cast-divided-weights
+cast-divided-weights c = omega (arith, below (c .before .before .before .before .before .before .before))
+
+array-borrow-prefix-w : tie.Need-array-borrow-prefix-w
+array-borrow-prefix-w c = search needs
+
+slice-aggregate-divided-weights : tie.Need-slice-aggregate-divided-weights
+slice-aggregate-divided-weights c = sym (length-take-le _ _ (array-borrow-prefix-w (c .before)))
+
+divided-weights-requires : tie.Need-divided-weights-requires
+divided-weights-requires c κs =
+    let s = c .before .before .before .before .before .before .before .before in
+    let p = s .args .p in
+    let nodes = s .args .nodes .now in
+    let alike = s .pre .1 .1 .0 .1 in (
+      (s .pre .1 .0 .1, s .pre .1 .0 .2, s .pre .1 .1 .0 .0),
+      (
+        (
+          subst NoZero (sym alike) (pairs-no-zero p (s .args .f) (s .pre .0 .0) nodes),
+          ap length alike ∙ pairs-length p (s .args .f) nodes,
+        ),
+        sym (slice-aggregate-divided-weights c) ∙ sym (s .pre .1 .0 .0),
+      ),
+    )
+
+-- the part of the array that was lent holds the weights, divided
+module _ (c : tie.After-divided-weights) where
+  abbrev start : tie.Start
+  start = c .before .before .before .before .before .before .before .before .before
+
+  abbrev k : ℕ
+  k = start .args .p .k
+
+  abbrev divided : List ℕ
+  divided =
+      quotientsOf (weightsOf (start .args .nodes .now) (memberAt (start .args .p) (start .args .f) (start .args .i)))
+      (pairsOf (start .args .p) (start .args .f) (start .args .nodes .now))
+
+  shares : c .divided-weights .last .1 .1 .1 .1 .0 ≡ divided
+  shares = c .divided-weights .ensures ∙ ap (quotientsOf _) (start .pre .1 .1 .0 .1)
+
+  written : length (c .divided-weights .last .1 .1 .1 .1 .0) ≡ k
+  written = ap length shares ∙ shares-length _ _ _ _ ∙ start .pre .1 .0 .0
+
+  lent : take k (c .divided-weights .last .1 .1 .1 .1 .0 ++ drop k (replicate 24 0)) ≡ divided
+  lent = front (c .divided-weights .last .1 .1 .1 .1 .0) _ written ∙ shares
+
+scale-requires : tie.Need-scale-requires
+scale-requires c κs = search needs
+
+fill-requires : tie.Need-fill-requires
+fill-requires c κs = search needs
+
+array-share-prefix-w : tie.Need-array-share-prefix-w
+array-share-prefix-w c =
+    let d = c .before .before .before .before .before .before .before in
+    front-fits (d .divided-weights .last .1 .1 .1 .1 .0) _ (written d)
+
+slice-aggregate-add-scaled : tie.Need-slice-aggregate-add-scaled
+slice-aggregate-add-scaled c = sym (length-take-le _ _ (array-share-prefix-w (c .before)))
+
+add-scaled-requires : tie.Need-add-scaled-requires
+add-scaled-requires c κs =
+    let s = start (c .before .before .before .before .before .before .before .before) in
+    omega (arith, slice-aggregate-add-scaled c, c .before .before .before .before .fill .kept .0, s .pre .1 .1 .1)
+
+same-length : tie.Need-same-length
+same-length c = search needs
+
+returns : tie.Need-returns
+returns c =
+    let zeros = c .before .before .before .before .before .before .before in
+    let scale = zeros .before .before in
+    let d = scale .before .before in
+    let s = start d in
+    c .before .before .add-scaled .ensures
+    ∙ coefficients-scaled (s .args .p) (s .args .f) (s .args .nodes .now) (s .args .i) (s .pre .1 .0 .0)
+    (scale .scale .ensures) (lent d)
+    (zeros .fill .ensures ∙ ap (λ (m : ℕ). listed m (λ b. 0)) (s .pre .1 .1 .1))
+
+pub row-coefficients-spec : {M : Type 1} → statement M
+row-coefficients-spec =
+    tie.close
+    (tie.spec
+    div-at
+    mul-at
+    add-at
+    cast-divided-weights
+    array-borrow-prefix-w
+    slice-aggregate-divided-weights
+    divided-weights-requires
+    scale-requires
+    fill-requires
+    array-share-prefix-w
+    slice-aggregate-add-scaled
+    add-scaled-requires
+    same-length
+    returns)

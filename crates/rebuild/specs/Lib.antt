@@ -1,0 +1,4 @@
+pub mod Folded
+pub mod Rows
+pub mod Column
+pub mod Checked

@@ -1,0 +1,377 @@
+// The rebuild of one lost node: one strip for each planned node, pairs folded; then each row of the lost column is one
+// sum of these strips, by coefficients computed once a row.
+ghost use mathlib.Core.Path.{_≡_};
+ghost use mathlib.Core.Logic.{_≢_};
+ghost use mathlib.Core.List.{[], _∷_};
+ghost use Prim.Native.Nat.{_+_, _*_, _<_, _-_, _%_, _≤_};
+ghost use lib.ListN.{length};
+ghost use Rattle.algebra.specs.Coupling.{factor};
+ghost use Rattle.strips.specs.Strips.{addedScaled};
+ghost use Rattle.document.specs.Bytes.{bytes, number};
+ghost use Rattle.document.specs.Profile.{Accepted};
+ghost use Rattle.document.specs.Encoding.{constantOf};
+ghost use Rattle.document.specs.Plan.{walkOf, chosenOver, nodesOver, planned};
+ghost use Rattle.document.specs.Rebuild.{givenAt, rebuiltOf, rebuildOf};
+ghost use Rattle.plan.specs.Steps.{placesAt};
+ghost use Rattle.rebuild.specs.Checked.{fromBundle};
+ghost use Rattle.rebuild.specs.Folded.{foldedOf, StripsFit, NodeAt};
+ghost use Rattle.gf256.specs.Field.{quotientsOf, NoZero};
+ghost use Rattle.coefficients.specs.Weights.{Different, Outside, denominatorsOf, weightsOf};
+ghost use Rattle.rebuild.specs.Rows.{factorAt, memberAt, pairAt, pairsOf, ownScaleAt, scaleAt};
+ghost use Rattle.rebuild.specs.Rows.{coefficientsOf, rowFrom};
+ghost use Rattle.rebuild.specs.Column.{indexIn, rowOf, rowsOf, NodesOf};
+use document::Answer;
+use document::Checked;
+use document::Node;
+use document::Numbers;
+use document::Profile;
+use document::Recording;
+use document::Refusal;
+use document::Row;
+use plan::Step;
+
+// Adds the partner's strip, times the factor of row c at local column l. The factor 1 is left out: a product takes
+// eight turns a byte.
+fn add_partner(x: &mut [u8], strip: &[u8], p: Profile, c: usize, l: usize)
+    requires { ⌜ Accepted p × (c ≢ l) × (length (now strip) ≡ length (now x)) ⌝ }
+    ensures { λ _. ⌜ now (x .exit)
+        ≡ addedScaled (number (factor bytes (constantOf p) c l)) 0 (now (strip .entry)) (now (x .entry)) ⌝ }
+{
+    if c < l {
+        strips::add(x, 0, strip);
+        return;
+    }
+    let t = p.constant(Row(c), l);
+    strips::add_scaled(x, 0, strip, t);
+}
+
+// Folds the strips that are read at node j into one; they stand in the plan from place m on. Returns the place after.
+fn fold_strip(
+    out: &mut [u8],
+    src: &[u8],
+    first: usize,
+    stride: usize,
+    p: Profile,
+    f: Node,
+    j: usize,
+    m: usize,
+) -> usize
+    requires { ⌜ Accepted p × (f .0 < p .n) × (length (now out) ≡ p .s) ⌝ }
+    requires { ⌜ StripsFit p f (now src) first stride × NodeAt p f j m ⌝ }
+    ensures { λ r. ⌜ (r ≡ m + length (placesAt (p .a) f j))
+        × (now (out .exit) ≡ foldedOf p f (givenAt (planned p f) (now (src .entry)) first stride) (j ∷ [])) ⌝ }
+{
+    strips::copy(out, src, first + m * stride);
+    if plan::in_step(Step::OffDiagonal, p, f, j) {
+        let from = first + (m + 1) * stride;
+        let end = from + p.s;
+        add_partner(out, &src[from..end], p, f.0 % p.a, j % p.a);
+        return m + 2;
+    }
+    m + 1
+}
+
+// Folds the strips of src, given in plan order, strip i at first + i·stride: one strip for each of the plan's nodes.
+fn fold_strips(
+    out: &mut [u8],
+    src: &[u8],
+    first: usize,
+    stride: usize,
+    p: Profile,
+    f: Node,
+    nodes: &[u8],
+)
+    requires { ⌜ Accepted p × (f .0 < p .n) × (now nodes ≡ nodesOver (p .k) (walkOf p f)) ⌝ }
+    requires { ⌜ (length (now out) ≡ length (now nodes) * p .s) × StripsFit p f (now src) first stride ⌝ }
+    ensures { λ _. ⌜ now (out .exit)
+        ≡ foldedOf p f (givenAt (planned p f) (now (src .entry)) first stride) (now (nodes .entry)) ⌝ }
+{
+    let s = p.s;
+    let mut m: usize = 0;
+    let mut i: usize = 0;
+    while i < nodes.len() {
+        let from = i * s;
+        let end = from + s;
+        m = fold_strip(
+            &mut out[from..end],
+            src,
+            first,
+            stride,
+            p,
+            f,
+            nodes[i] as usize,
+            m,
+        );
+        i += 1;
+    }
+}
+
+// The factor of row i at local column l.
+fn factor_at(p: Profile, i: usize, l: usize) -> u8
+    requires { ⌜ Accepted p ⌝ }
+    ensures { λ r. ⌜ r ≡ number (factorAt p i l) ⌝ }
+{
+    if i == l {
+        return 0;
+    }
+    if i < l {
+        return 1;
+    }
+    p.constant(Row(i), l)
+}
+
+// The determinant of f's row at local column l and its partner: one of the two factors is 1, or both are 0.
+fn pair_at(p: Profile, f: Node, l: usize) -> u8
+    requires { ⌜ Accepted p ⌝ }
+    ensures { λ r. ⌜ r ≡ number (pairAt p f l) ⌝ }
+{
+    let c = f.0 % p.a;
+    if l < c {
+        return 1 ^ p.constant(Row(c), l);
+    }
+    if c < l {
+        return 1 ^ p.constant(Row(l), c);
+    }
+    1
+}
+
+// The determinants at the chosen nodes. They do not depend on the row wanted: computed once, they serve every row.
+fn pairs(p: Profile, f: Node, nodes: &[u8], out: &mut [u8])
+    requires { ⌜ Accepted p × (length (now out) ≡ length (now nodes)) ⌝ }
+    ensures { λ _. ⌜ now (out .exit) ≡ pairsOf p f (now (nodes .entry)) ⌝ }
+{
+    let mut q = 0;
+    while q < nodes.len() {
+        let d = pair_at(p, f, nodes[q] as usize % p.a);
+        out[q] = d;
+        q += 1;
+    }
+}
+
+// By what f's row of the other node i of its group is multiplied.
+fn own_scale(p: Profile, f: Node, i: usize) -> u8
+    requires { ⌜ Accepted p ⌝ }
+    ensures { λ r. ⌜ r ≡ number (ownScaleAt p f i) ⌝ }
+{
+    gf256::inverse(factor_at(p, f.0 % p.a, i))
+}
+
+// By what f's row is multiplied for row i.
+fn scale(p: Profile, f: Node, i: usize) -> u8
+    requires { ⌜ Accepted p ⌝ }
+    ensures { λ r. ⌜ r ≡ number (scaleAt p f i) ⌝ }
+{
+    let c = f.0 % p.a;
+    if i == c {
+        return 1;
+    }
+    own_scale(p, f, i) ^ factor_at(p, i, c)
+}
+
+// The weights at the node `at`, each divided by the determinant of its node.
+fn divided_weights(nodes: &[u8], denominators: &[u8], at: u8, pairs: &[u8], out: &mut [u8])
+    requires { ⌜ Different (now nodes) × Outside (now nodes) at × (now denominators ≡ denominatorsOf (now nodes)) ⌝ }
+    requires { ⌜ NoZero (now pairs) × (length (now pairs) ≡ length (now nodes)) ⌝ }
+    requires { ⌜ length (now out) ≡ length (now nodes) ⌝ }
+    ensures { λ _. ⌜ now (out .exit) ≡ quotientsOf (weightsOf (now (nodes .entry)) at) (now (pairs .entry)) ⌝ }
+{
+    coefficients::weights(nodes, denominators, at, out);
+    gf256::divide_all(out, pairs);
+}
+
+// The coefficients of row i of the lost column.
+fn row_coefficients(
+    p: Profile,
+    f: Node,
+    nodes: &[u8],
+    denominators: &[u8],
+    pairs: &[u8],
+    i: usize,
+    out: &mut [u8],
+)
+    requires { ⌜ Accepted p × (f .0 < p .n) × (i < p .a) ⌝ }
+    requires { ⌜ (length (now nodes) ≡ p .k) × Different (now nodes) × Outside (now nodes) (memberAt p f i) ⌝ }
+    requires { ⌜ (now denominators ≡ denominatorsOf (now nodes)) × (now pairs ≡ pairsOf p f (now nodes)) ⌝ }
+    requires { ⌜ length (now out) ≡ p .k ⌝ }
+    ensures { λ _. ⌜ now (out .exit) ≡ coefficientsOf p f (now (nodes .entry)) i ⌝ }
+{
+    let k = p.k;
+    let at = f.0 / p.a * p.a + i;
+    let mut w = [0u8; 24];
+    divided_weights(nodes, denominators, at as u8, pairs, &mut w[..k]);
+    let c = scale(p, f, i);
+    strips::fill(out, 0);
+    strips::add_scaled(out, 0, &w[..k], c);
+}
+
+// Row i of the lost column: the sum of the folded strips by the row's coefficients, and the group's own strip `own`.
+// The A-1 strips of the group stand first in `folded`, then those of the chosen nodes.
+fn rebuild_row(
+    dst: &mut [u8],
+    folded: &[u8],
+    p: Profile,
+    f: Node,
+    i: usize,
+    coefficients: &[u8],
+    own: usize,
+)
+    requires { ⌜ Accepted p × (length (now dst) ≡ p .s) × (length (now coefficients) ≡ p .k) ⌝ }
+    requires { ⌜ (p .a - 1) * p .s + p .k * p .s ≤ length (now folded) ⌝ }
+    requires { ⌜ (i ≢ f .0 % p .a → own < p .a - 1) ⌝ }
+    ensures { λ _. ⌜ now (dst .exit) ≡ rowFrom p f i own (now (coefficients .entry)) (now (folded .entry)) ⌝ }
+{
+    let s = p.s;
+    strips::combine(dst, folded, (p.a - 1) * s, s, coefficients);
+    if i != f.0 % p.a {
+        let from = own * s;
+        let end = from + s;
+        let c = own_scale(p, f, i);
+        strips::add_scaled(dst, 0, &folded[from..end], c);
+    }
+}
+
+// Where node j stands among the nodes; their number if it does not.
+fn index_of(nodes: &[u8], j: usize) -> usize
+    ensures { λ r. ⌜ r ≡ indexIn j (now (nodes .entry)) ⌝ }
+{
+    let mut i: usize = 0;
+    while i < nodes.len() {
+        if nodes[i] as usize == j {
+            return i;
+        }
+        i += 1;
+    }
+    i
+}
+
+// Row i of the lost column, with its coefficients computed.
+fn put_row(
+    dst: &mut [u8],
+    folded: &[u8],
+    p: Profile,
+    f: Node,
+    i: usize,
+    own: &[u8],
+    chosen: &[u8],
+    denominators: &[u8],
+    pairs: &[u8],
+)
+    requires { ⌜ Accepted p × (f .0 < p .n) × (i < p .a) × NodesOf p f (now own) (now chosen) ⌝ }
+    requires { ⌜ (now denominators ≡ denominatorsOf (now chosen)) × (now pairs ≡ pairsOf p f (now chosen)) ⌝ }
+    requires { ⌜ (length (now dst) ≡ p .s) × ((p .a - 1) * p .s + p .k * p .s ≤ length (now folded)) ⌝ }
+    ensures { λ _. ⌜ now (dst .exit) ≡ rowOf p f (now (own .entry)) (now (chosen .entry)) (now (folded .entry)) i ⌝ }
+{
+    let k = p.k;
+    let mut coefficients = [0u8; 24];
+    row_coefficients(p, f, chosen, denominators, pairs, i, &mut coefficients[..k]);
+    let at = index_of(own, f.0 / p.a * p.a + i);
+    rebuild_row(dst, folded, p, f, i, &coefficients[..k], at);
+}
+
+// The rows of the lost column. What does not depend on the row is computed once.
+fn put_rows(column: &mut [u8], folded: &[u8], p: Profile, f: Node, own: &[u8], chosen: &[u8])
+    requires { ⌜ Accepted p × (f .0 < p .n) × NodesOf p f (now own) (now chosen) ⌝ }
+    requires { ⌜ (length (now column) ≡ p .a * p .s) × ((p .a - 1) * p .s + p .k * p .s ≤ length (now folded)) ⌝ }
+    ensures { λ _. ⌜ now (column .exit) ≡ rowsOf p f (now (own .entry)) (now (chosen .entry)) (now (folded .entry)) ⌝ }
+{
+    let k = p.k;
+    let a = p.a;
+    let s = p.s;
+    let mut denominators = [0u8; 24];
+    coefficients::denominators(chosen, &mut denominators[..k]);
+    let mut determinants = [0u8; 24];
+    pairs(p, f, chosen, &mut determinants[..k]);
+    let mut i: usize = 0;
+    while i < a {
+        let from = i * s;
+        let end = from + s;
+        put_row(
+            &mut column[from..end],
+            folded,
+            p,
+            f,
+            i,
+            own,
+            chosen,
+            &denominators[..k],
+            &determinants[..k],
+        );
+        i += 1;
+    }
+}
+
+// The rows of the lost column, from the strips folded for the plan's nodes: the A-1 of f's group, then the chosen ones.
+fn rebuild_rows(column: &mut [u8], folded: &[u8], p: Profile, f: Node, nodes: &[u8])
+    requires { ⌜ Accepted p × (f .0 < p .n) × (now nodes ≡ nodesOver (p .k) (walkOf p f)) ⌝ }
+    requires { ⌜ (length (now column) ≡ p .a * p .s) × (length (now folded) ≡ length (now nodes) * p .s) ⌝ }
+    ensures { λ _. ⌜ now (column .exit)
+        ≡ rowsOf p f ((walkOf p f) .own) (chosenOver (p .k) (walkOf p f)) (now (folded .entry)) ⌝ }
+{
+    let own = p.a - 1;
+    let count = nodes.len();
+    put_rows(column, folded, p, f, &nodes[..own], &nodes[own..count]);
+}
+
+// The lost column, from the strips of src, given in plan order, strip i at first + i·stride.
+pub fn rebuild_column(
+    column: &mut [u8],
+    src: &[u8],
+    first: usize,
+    stride: usize,
+    p: Profile,
+    f: Node,
+)
+    requires { ⌜ Accepted p × (f .0 < p .n) × (length (now column) ≡ p .a * p .s) ⌝ }
+    requires { ⌜ StripsFit p f (now src) first stride ⌝ }
+    ensures { λ _. ⌜ now (column .exit) ≡ rebuiltOf p f (now (src .entry)) first stride ⌝ }
+{
+    let mut nodes = [0u8; 72];
+    let count = plan::list_nodes(&mut nodes, p, f);
+    let size = count * p.s;
+    let mut folded = [0u8; 12288];
+    fold_strips(
+        &mut folded[..size],
+        src,
+        first,
+        stride,
+        p,
+        f,
+        &nodes[..count],
+    );
+    rebuild_rows(column, &folded[..size], p, f, &nodes[..count]);
+}
+
+// Rebuilds from a bundle, if it is what is wanted.
+fn rebuild_from(p: Profile, f: Node, r: Recording, bundle: &[u8], column: &mut [u8]) -> Answer
+    requires { ⌜ Accepted p × (f .0 < p .n) × (length (now column) ≡ p .a * p .s) ⌝ }
+    ensures { λ a. ⌜ (a, now (column .exit)) ≡ fromBundle p f r (now (bundle .entry)) (now (column .entry)) ⌝ }
+{
+    let answer = bundle::check(p, f, r, bundle);
+    match answer {
+        Answer::Refused(refusal) => Answer::Refused(refusal),
+        Answer::Done(_) => {
+            let stride = bundle::strip_stride(p);
+            rebuild_column(column, bundle, bundle::FIRST_STRIP, stride, p, f);
+            Answer::Done(0)
+        }
+    }
+}
+
+// Rebuilds the column of a lost node from a bundle. After a refusal all bytes are what they were.
+pub fn rebuild(p: Numbers, lost: usize, r: Recording, bundle: &[u8], column: &mut [u8]) -> Answer
+    ensures { λ a. ⌜ (a, now (column .exit)) ≡ rebuildOf p lost r (now (bundle .entry)) (now (column .entry)) ⌝ }
+{
+    let checked = Profile::new(p);
+    match checked {
+        Checked::Rejected(refusal) => Answer::Refused(refusal),
+        Checked::Passed(q) => {
+            if lost >= q.n {
+                return Answer::Refused(Refusal::OutOfRange);
+            }
+            if column.len() != q.a * q.s {
+                return Answer::Refused(Refusal::BufferLength);
+            }
+            rebuild_from(q, Node(lost), r, bundle, column)
+        }
+    }
+}

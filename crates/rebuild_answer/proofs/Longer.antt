@@ -1,0 +1,117 @@
+-- A bundle that is longer than any that is wanted is refused as any other such bundle: so a longer input answers as its
+-- prefix does.
+use mathlib.Core.Path.{_≡_, refl, sym, _∙_}
+use mathlib.Core.Bool.{Bool, true, false, not}
+use mathlib.Core.List.{List, _∷_}
+use Prim.Native.Nat.{ℕ, _*_, _≤_, _<_}
+use native.Mathlib.Nat.{mul-le-mul}
+use native.Mathlib.Omega.{arith}
+use lib.Dec.{ltb, lit<}
+use lib.ListN.{length, take, drop, replicate, length-drop}
+use lib.Seq.{length-take-le, getD-take}
+use borrow.Author.Tests.{ltb-true, ne-eqb}
+use Rattle.document.specs.declared.Numbers.{Numbers}
+use Rattle.document.specs.declared.Profile.{Profile}
+use Rattle.document.specs.declared.Node.{Node}
+use Rattle.document.specs.declared.Recording.{Recording}
+use Rattle.document.specs.declared.Refusal.the-variants.{OutOfRange, BufferLength, BundleForm}
+use Rattle.document.specs.declared.Checked.{Checked}
+use Rattle.document.specs.declared.Checked.the-variants.{Passed, Rejected}
+use Rattle.document.specs.Refusals.{Test, tried}
+use Rattle.document.specs.Profile.{maxStrip, Accepted, profileOf, checkedOf}
+use Rattle.document.specs.Plan.{planned, maxPlaces}
+use Rattle.document.specs.Bundle.{stripFieldLength, bundleLength, longestBundle, formed, bundleTests}
+use Rattle.document.specs.Rebuild.{rebuildTests, rebuildOf}
+use Rattle.document.specs.Program.{
+  byteIn,
+  programHead,
+  wantedNumbers,
+  wantedNode,
+  wantedRecording,
+  lineOf,
+  outputOf,
+  programOf,
+}
+use Rattle.document.proofs.Accepts.{accepted, tried-rejected, tried-accepted}
+use Rattle.document.proofs.Price.{few-places}
+use Rattle.document.proofs.Program.{output-is}
+use Rattle.rebuild_answer.specs.Room.{longestInput}
+
+-- a bundle longer than that of the most places with the longest strips is refused at the latest for its length
+not-formed : (p : Profile) → Accepted p → (f : Node) → f .0 < p .n → (b : List ℕ)
+    → longestBundle < length b → formed p f b ≡ false
+unfolding formed
+not-formed p acc f h b long =
+    let bound : length (planned p f) * stripFieldLength (p .s) ≤ maxPlaces * stripFieldLength maxStrip =
+    mul-le-mul {n₁ = length (planned p f)} {m₁ = stripFieldLength (p .s)} {n₂ = maxPlaces}
+    {m₂ = stripFieldLength maxStrip} (few-places p acc f h) (omega (arith, acc .short)) in
+    rw (ne-eqb (length b) (bundleLength p f) (λ e. omega arith)) refl
+
+-- the tests of the lost node, the column and the bundle's form, where form is what fails at the latest
+form-refused : (node lent form₁ form₂ : Bool) (ts us : List Test) (x y : List ℕ)
+    → (node ≡ true → (form₁ ≡ false) × (form₂ ≡ false))
+    → tried
+    (record { refusal = OutOfRange; holds = not node } ∷ record { refusal = BufferLength; holds = lent }
+    ∷ record { refusal = BundleForm; holds = not form₁ } ∷ ts) lineOf x
+    ≡ tried
+    (record { refusal = OutOfRange; holds = not node } ∷ record { refusal = BufferLength; holds = lent }
+    ∷ record { refusal = BundleForm; holds = not form₂ } ∷ us) lineOf y
+unfolding tried
+form-refused false lent form₁ form₂ ts us x y h = refl
+form-refused true true form₁ form₂ ts us x y h = refl
+form-refused true false form₁ form₂ ts us x y h = simp (h refl .0, h refl .1)
+
+too-long : (p : Numbers) (f : ℕ) (r : Recording) (b c y : List ℕ)
+    → longestBundle < length b → longestBundle < length c
+    → outputOf (rebuildOf p f r b y) ≡ outputOf (rebuildOf p f r c y)
+unfolding rebuildTests bundleTests
+too-long p f r b c y lb lc = go (checkedOf p) refl
+  where
+    go : (o : Checked) → checkedOf p ≡ o → outputOf (rebuildOf p f r b y) ≡ outputOf (rebuildOf p f r c y)
+    go (Rejected s) e =
+        output-is p f r b y ∙ tried-rejected p _ lineOf _ s e ∙ sym (tried-rejected p _ lineOf _ s e)
+        ∙ sym (output-is p f r c y)
+    go (Passed q) e =
+        let acc : Accepted (profileOf p) = rw (accepted p q e .0) at (accepted p q e .1) in
+        output-is p f r b y ∙ tried-accepted p _ lineOf _ q e
+        ∙ form-refused (ltb f (p .n)) _ _ _ _ _ _ _
+        (λ h. (
+          not-formed (profileOf p) acc (record { 0 = f }) (ltb-true f (p .n) h) b lb,
+          not-formed (profileOf p) acc (record { 0 = f }) (ltb-true f (p .n) h) c lc,
+        ))
+        ∙ sym (tried-accepted p _ lineOf _ q e)
+        ∙ sym (output-is p f r c y)
+
+-- a longer input answers as its prefix does
+module _ (m : ℕ) (long : longestInput < m) (input : List ℕ) (h : m ≤ length input) where
+  read : (i : ℕ) → i < programHead → byteIn (take m input) i ≡ byteIn input i
+  read i l = getD-take m input i 0 (omega arith)
+
+  numbers-same : wantedNumbers (take m input) ≡ wantedNumbers input
+  unfolding wantedNumbers
+  numbers-same =
+      simp (
+        read 0 (lit< tt),
+        read 1 (lit< tt),
+        read 2 (lit< tt),
+        read 3 (lit< tt),
+        read 4 (lit< tt),
+        read 5 (lit< tt),
+      )
+
+  lost-same : wantedNode (take m input) ≡ wantedNode input
+  unfolding wantedNode
+  lost-same = read 6 (lit< tt)
+
+  recording-same : wantedRecording (take m input) ≡ wantedRecording input
+  unfolding wantedRecording
+  recording-same = simp (read 7 (lit< tt), read 8 (lit< tt), read 9 (lit< tt), read 10 (lit< tt))
+
+  pub longer-input : programOf input ≡ programOf (take m input)
+  unfolding programOf
+  longer-input =
+      rw (numbers-same, lost-same, recording-same)
+      (too-long (wantedNumbers input) (wantedNode input) (wantedRecording input) (drop programHead input)
+      (drop programHead (take m input)) (replicate (wantedNumbers input .a * wantedNumbers input .s) 0)
+      (rw length-drop (omega arith))
+      (rw (length-drop programHead (take m input), length-take-le m input h) (omega arith)))

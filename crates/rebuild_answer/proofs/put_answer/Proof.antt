@@ -1,0 +1,112 @@
+-- `rebuild_answer::put_answer` meets its contract: the column stays where it was rebuilt, a line is written over it.
+use mathlib.Core.Path.{_≡_, sym, _∙_}
+use mathlib.Core.List.{_++_}
+use Prim.Native.Nat.{_*_, _≤_, min}
+use native.Mathlib.Nat.{mul-le-mul}
+use native.Mathlib.Omega.{arith}
+use lib.ListN.{length, take, drop}
+use lib.Seq.{length-take-le, length-front}
+use borrow.Author.Needs.{needs}
+use Rattle.document.specs.Profile.{maxRows, maxStrip}
+use Rattle.document.specs.Program.{wantedNumbers}
+use Rattle.rebuild_answer.proofs.Answers.{column-answered, line-answered, index-small}
+use Rattle.rebuild_answer.proofs.put_answer.Statement.{statement}
+use Rattle.rebuild_answer.proofs.put_answer.Tie as tie
+
+numbers-requires : tie.Need-numbers-requires
+numbers-requires c κs = search needs
+
+mul-least : tie.Need-mul-least
+mul-least c =
+    let n = c .before .numbers in
+    let bound : n .result .a * n .result .s ≤ 255 * 65535 = mul-le-mul (n .ensures .1) (n .ensures .2) in
+    omega arith
+
+least-requires : tie.Need-least-requires
+least-requires c κs = search needs
+
+slice-relend-prefix-rebuild-column : tie.Need-slice-relend-prefix-rebuild-column
+slice-relend-prefix-rebuild-column c = search needs
+
+slice-aggregate-rebuild-column : tie.Need-slice-aggregate-rebuild-column
+slice-aggregate-rebuild-column c = sym (length-take-le _ _ (slice-relend-prefix-rebuild-column (c .before)))
+
+-- what was lent to the rebuild
+module _ (r : tie.After-rebuild-column) where
+  abbrev least : tie.After-least
+  least = r .before .before
+
+  abbrev start : tie.Start
+  start = least .before .before .before .before .before
+
+  same : least .before .before .numbers .result ≡ wantedNumbers (start .args .input .now)
+  same = least .before .before .numbers .ensures .0
+
+  fits : length (take (least .least .result) (start .args .out .now)) ≡ least .least .result
+  fits = sym (slice-aggregate-rebuild-column (r .before))
+
+  lent : length (take (least .least .result) (start .args .out .now))
+      ≡ min (least .before .before .numbers .result .a * least .before .before .numbers .result .s) (maxRows * maxStrip)
+  lent = fits ∙ least .least .ensures
+
+  -- the output with the lent part given back
+  whole : length (r .rebuild-column .last .1 .1 .0 ++ drop (least .least .result) (start .args .out .now))
+      ≡ length (start .args .out .now)
+  whole =
+      length-front (start .args .out .now) (r .rebuild-column .last .1 .1 .0) (least .least .result)
+      (r .rebuild-column .kept .1 .1 .0)
+
+rebuild-column-requires : tie.Need-rebuild-column-requires
+rebuild-column-requires c κs = search needs
+
+enum-told : tie.Need-enum-told
+enum-told c = search needs
+
+enum-known-outcome : tie.Need-enum-known-outcome
+enum-known-outcome c = search needs
+
+put-line-requires : tie.Need-put-line-requires
+put-line-requires c κs =
+    let o = c .before .before in
+    let r = o .before .before .before .before in (
+      omega (arith, whole r, start r .pre),
+      index-small _ _ (same r) _ (lent r) (r .rebuild-column .ensures) (o .outcome .given .1),
+    )
+
+same-length : tie.Need-same-length
+same-length c = search needs
+
+returns : tie.Need-returns
+returns c =
+    let r = c .before .before .before .before in
+    column-answered _ _ (same r) _ (lent r) (r .rebuild-column .ensures) (c .enum-told .given .1) _ _
+    (r .rebuild-column .kept .1 .1 .0 ∙ fits r)
+
+same-length-2 : tie.Need-same-length-2
+same-length-2 c = search needs
+
+returns-2 : tie.Need-returns-2
+returns-2 c =
+    let w = c .before .before in
+    let o = w .before .before .before in
+    let r = o .before .before .before .before in
+    line-answered _ _ (same r) _ (lent r) (r .rebuild-column .ensures) (o .outcome .given .1)
+    (omega (arith, w .put-line .kept .0, whole r, start r .pre)) (w .put-line .ensures)
+
+pub put-answer-spec : {M : Type 1} → statement M
+put-answer-spec =
+    tie.close
+    (tie.spec
+    numbers-requires
+    mul-least
+    least-requires
+    slice-relend-prefix-rebuild-column
+    slice-aggregate-rebuild-column
+    rebuild-column-requires
+    enum-told
+    enum-known-outcome
+    put-line-requires
+    same-length
+    returns
+    same-length-2
+    returns-2)

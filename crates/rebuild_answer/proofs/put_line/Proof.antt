@@ -1,0 +1,80 @@
+-- `rebuild_answer::put_line` meets its contract: the parts of the line are written in a row.
+use Prim.Native.Nat.{_+_, _≤_}
+use native.Mathlib.Omega.{arith}
+use borrow.Author.Needs.{needs}
+use Rattle.rebuild_answer.proofs.Text.{number-ends, number-bound, refusedText, atText, line-written}
+use Rattle.rebuild_answer.proofs.put_line.Statement.{statement}
+use Rattle.rebuild_answer.proofs.put_line.Tie as tie
+
+-- where the number and the index end
+number-end : (w : tie.After-put-number) → w .put-number .result ≤ 10
+number-end w = number-ends refusedText _ (w .put-number .ensures)
+
+index-end : (v : tie.After-put-number2) → v .put-number2 .result ≤ 16
+index-end v =
+    let w = v .before .before .before .before .before .before in
+    let e : v .put-number2 .result ≤ w .put-number .result + 4 + 2 = number-ends atText _ (v .put-number2 .ensures) in
+    omega (arith, number-end w)
+
+slice-aggregate-put-number : tie.Need-slice-aggregate-put-number
+slice-aggregate-put-number c = search needs
+
+number-requires : tie.Need-number-requires
+number-requires c κs = search needs
+
+cast-put-number : tie.Need-cast-put-number
+cast-put-number c = search needs
+
+put-number-requires : tie.Need-put-number-requires
+put-number-requires c κs =
+    let s = c .before .before .before .before in
+    (omega (arith, s .pre .0), omega (arith, c .number .ensures, number-bound (s .args .r)))
+
+slice-aggregate-put-number-2 : tie.Need-slice-aggregate-put-number-2
+slice-aggregate-put-number-2 c = search needs
+
+index-requires : tie.Need-index-requires
+index-requires c κs = search needs
+
+put-number-requires-2 : tie.Need-put-number-requires-2
+put-number-requires-2 c κs =
+    let w = c .before .before .before .before .before in
+    let s = w .before .before .before .before .before in
+    (omega (arith, number-end w, w .put-number .kept .0, s .pre .0), omega (arith, c .index .ensures, s .pre .1))
+
+slice-aggregate-put-bytes : tie.Need-slice-aggregate-put-bytes
+slice-aggregate-put-bytes c = search needs
+
+put-bytes-requires : tie.Need-put-bytes-requires
+put-bytes-requires c κs =
+    let v = c .before .before .before .before in
+    let w = v .before .before .before .before .before .before in
+    let s = w .before .before .before .before .before in
+    omega (arith, index-end v, v .put-number2 .kept .0, w .put-number .kept .0, s .pre .0)
+
+same-length : tie.Need-same-length
+same-length c = search needs
+
+returns : tie.Need-returns
+returns c =
+    let t = c .before .before in
+    let v = t .before .before .before .before .before in
+    let w = v .before .before .before .before .before .before in
+    line-written _ (w .put-number .ensures) (v .put-number2 .ensures) (t .put-bytes .ensures)
+    (w .before .number .ensures) (v .before .index .ensures)
+
+pub put-line-spec : {M : Type 1} → statement M
+put-line-spec =
+    tie.close
+    (tie.spec
+    slice-aggregate-put-number
+    number-requires
+    cast-put-number
+    put-number-requires
+    slice-aggregate-put-number-2
+    index-requires
+    put-number-requires-2
+    slice-aggregate-put-bytes
+    put-bytes-requires
+    same-length
+    returns)

@@ -1,0 +1,150 @@
+// The small program of document 01 as a function: from the bytes of standard input to those of standard output.
+ghost use mathlib.Core.Path.{_≡_};
+ghost use mathlib.Core.List.{_++_};
+ghost use Prim.Native.Nat.{_+_, _<_, _≤_, min};
+ghost use lib.ListN.{length, drop};
+ghost use Rattle.lists.specs.Put.{Wrote};
+ghost use Rattle.document.specs.Refusals.{indexOf};
+ghost use Rattle.document.specs.Rebuild.{rebuildOf};
+ghost use Rattle.document.specs.Program.{byteIn, programHead, wantedNumbers, wantedNode, wantedRecording, decimal, lineOf};
+ghost use Rattle.rebuild_answer.specs.Room.{longestInput};
+ghost use Rattle.rebuild_answer.specs.Answered.{Answered};
+use document::Answer;
+use document::Numbers;
+use document::Profile;
+use document::Recording;
+use document::Refusal;
+
+// The bytes before the bundle: n, k, A, t, S in two, wanted node, wanted scenario in four.
+const HEAD: usize = 11;
+
+// As much of the input as is needed: one byte more than the head and the longest bundle. A longer input answers as its
+// first ROOM bytes do: `longer-input` of proofs/Longer.antt.
+pub const ROOM: usize = HEAD + bundle::LONGEST + 1;
+
+// The longest column.
+const COLUMN: usize = Profile::MAX_ROWS * Profile::MAX_STRIP;
+
+// Zeros, for the input.
+pub fn input_buffer() -> [u8; ROOM]
+    ensures { λ r. ⌜ longestInput + 1 ≡ length r ⌝ }
+{
+    [0; ROOM]
+}
+
+// Byte i of the input; 0 where it is missing.
+fn byte_in(input: &[u8], i: usize) -> u8
+    ensures { λ r. ⌜ r ≡ byteIn (now (input .entry)) i ⌝ }
+{
+    if i < input.len() {
+        return input[i];
+    }
+    0
+}
+
+// The numbers of the wanted profile, S high byte first.
+fn numbers(input: &[u8]) -> Numbers
+    ensures { λ r. ⌜ (r ≡ wantedNumbers (now (input .entry))) × (r .a ≤ 255) × (r .s ≤ 65535) ⌝ }
+{
+    let n = byte_in(input, 0) as usize;
+    let k = byte_in(input, 1) as usize;
+    let a = byte_in(input, 2) as usize;
+    let t = byte_in(input, 3) as usize;
+    let high = byte_in(input, 4) as usize;
+    let low = byte_in(input, 5) as usize;
+    Numbers {
+        n,
+        k,
+        a,
+        t,
+        s: high * 256 + low,
+    }
+}
+
+// The wanted recording: the scenario's number, high byte first.
+fn recording(input: &[u8]) -> Recording
+    ensures { λ r. ⌜ r ≡ wantedRecording (now (input .entry)) ⌝ }
+{
+    let b0 = byte_in(input, 7) as u32;
+    let b1 = byte_in(input, 8) as u32;
+    let b2 = byte_in(input, 9) as u32;
+    let b3 = byte_in(input, 10) as u32;
+    Recording {
+        scenario: ((b0 * 256 + b1) * 256 + b2) * 256 + b3,
+    }
+}
+
+// The smaller of two numbers.
+fn least(a: usize, b: usize) -> usize
+    ensures { λ r. ⌜ r ≡ min a b ⌝ }
+{
+    if a < b {
+        return a;
+    }
+    b
+}
+
+// Writes a number in decimal digits.
+fn put_decimal(out: &mut [u8], at: usize, v: usize) -> usize
+    requires { ⌜ (at + 2 ≤ length (now out)) × (v < 100) ⌝ }
+    ensures { λ r. ⌜ Wrote (now (out .entry)) at (decimal v) r (now (out .exit)) ⌝ }
+{
+    if v < 10 {
+        out[at] = 48 + v as u8;
+        return at + 1;
+    }
+    out[at] = 48 + (v / 10) as u8;
+    out[at + 1] = 48 + (v % 10) as u8;
+    at + 2
+}
+
+// Writes a text and the number after it.
+fn put_number(out: &mut [u8], at: usize, text: &[u8], v: usize) -> usize
+    requires { ⌜ (at + length (now text) + 2 ≤ length (now out)) × (v < 100) ⌝ }
+    ensures { λ r. ⌜ Wrote (now (out .entry)) at (now (text .entry) ++ decimal v) r (now (out .exit)) ⌝ }
+{
+    let next = fields::put_bytes(out, at, text);
+    put_decimal(out, next, v)
+}
+
+// Writes the line for a refusal.
+fn put_line(out: &mut [u8], r: Refusal) -> usize
+    requires { ⌜ (17 ≤ length (now out)) × (indexOf r < 100) ⌝ }
+    ensures { λ n. ⌜ Wrote (now (out .entry)) 0 (lineOf r) n (now (out .exit)) ⌝ }
+{
+    let number = put_number(out, 0, b"refused ", r.number() as usize);
+    let index = put_number(out, number, b" at ", r.index());
+    fields::put_bytes(out, index, b"\n")
+}
+
+// Rebuilds from the bundle that follows the head.
+fn rebuild_column(input: &[u8], p: Numbers, column: &mut [u8]) -> Answer
+    ensures { λ a. ⌜ (a, now (column .exit)) ≡ rebuildOf p (wantedNode (now (input .entry)))
+        (wantedRecording (now (input .entry))) (drop programHead (now (input .entry))) (now (column .entry)) ⌝ }
+{
+    let lost = byte_in(input, 6) as usize;
+    let r = recording(input);
+    let head = least(input.len(), HEAD);
+    rebuild::rebuild(p, lost, r, &input[head..], column)
+}
+
+// Writes what the program answers to this input, and returns the number of its bytes.
+fn put_answer(out: &mut [u8], input: &[u8]) -> usize
+    requires { ⌜ 2048 ≤ length (now out) ⌝ }
+    ensures { λ r. ⌜ Answered (now (input .entry)) r (now (out .exit)) ⌝ }
+{
+    let p = numbers(input);
+    let room = least(p.a * p.s, COLUMN);
+    let outcome = rebuild_column(input, p, &mut out[..room]);
+    match outcome {
+        Answer::Done(_) => room,
+        Answer::Refused(r) => put_line(out, r),
+    }
+}
+
+// What the program writes to standard output for this standard input: so many bytes at the start of `output`.
+pub fn answer(input: &[u8], output: &mut [u8; 2048]) -> usize
+    ensures { λ r. ⌜ Answered (now (input .entry)) r (now (output .exit)) ⌝ }
+{
+    put_answer(output, input)
+}

@@ -1,0 +1,52 @@
+-- The laws of strips added: once, and a multiple of a strip to another, byte by byte.
+use mathlib.Core.Path.{_≡_, sym, ap, ap₂, _∙_}
+use mathlib.Core.List.{List}
+use Prim.Native.Nat.{ℕ, _+_, _<_}
+use native.Mathlib.Nat.{zero-add}
+use native.Mathlib.Omega.{arith}
+use lib.ListN.{length, getD}
+use lib.Seq.{ext-getD}
+use Rattle.lists.specs.Listed.{listed, patched}
+use Rattle.lists.proofs.Listed.{listed-length, listed-at}
+use Rattle.lists.proofs.Patched.{patched-ext, patched-length, patched-in}
+use Rattle.gf256.specs.Field.{_⊕_, _⊗_}
+use Rattle.gf256.proofs.Ring.{one-mul}
+use Rattle.strips.specs.Strips.{stripAt, addedScaled, addedStrip}
+
+-- adding once is adding with the factor 1
+pub added-once : (at : ℕ) (src x : List ℕ) → ((b : ℕ) → getD src b 0 < 256)
+    → addedStrip at src x ≡ addedScaled 1 at src x
+unfolding addedStrip addedScaled
+added-once at src x small =
+    patched-ext at (length src) _ _ x
+    (λ b l. ap (λ (v : ℕ). getD x (at + b) 0 ⊕ v) (sym (one-mul (getD src b 0) (small b))))
+
+-- a multiple of a strip added to a whole list of its length
+module _ (c n : ℕ) (f g : ℕ → ℕ) where
+  abbrev sums : ℕ → ℕ
+  sums b = getD (listed n g) (0 + b) 0 ⊕ (c ⊗ getD (listed n f) b 0)
+
+  sums-at : (b : ℕ) → b < n → sums b ≡ g b ⊕ (c ⊗ f b)
+  sums-at b h =
+      ap₂ (λ (u v : ℕ). u ⊕ (c ⊗ v))
+      (ap (λ (e : ℕ). getD (listed n g) e 0) (zero-add b) ∙ listed-at n g b 0 h) (listed-at n f b 0 h)
+
+  pub added-listed : addedScaled c 0 (listed n f) (listed n g) ≡ listed n (λ b. g b ⊕ (c ⊗ f b))
+  unfolding addedScaled
+  added-listed =
+      let added : List ℕ = patched 0 (length (listed n f)) sums (listed n g) in
+      let size : length added ≡ n = patched-length 0 (length (listed n f)) sums (listed n g) ∙ listed-length n g in
+      ext-getD 0 added (listed n (λ b. g b ⊕ (c ⊗ f b))) (size ∙ sym (listed-length n _))
+      (λ b h.
+      let l : b < n = omega (arith, size) in
+      ap (λ (e : ℕ). getD added e 0) (sym (zero-add b))
+      ∙ patched-in 0 (length (listed n f)) sums (listed n g) b (omega (arith, listed-length n f))
+      (omega (arith, listed-length n g))
+      ∙ sums-at b l ∙ sym (listed-at n (λ b. g b ⊕ (c ⊗ f b)) b 0 l))
+
+-- a multiple of one strip of a list added to another
+pub added-strips : (c : ℕ) (x : List ℕ) (at other s : ℕ)
+    → addedScaled c 0 (stripAt x other s) (stripAt x at s)
+    ≡ listed s (λ b. getD x (at + b) 0 ⊕ (c ⊗ getD x (other + b) 0))
+unfolding stripAt
+added-strips c x at other s = added-listed c s (λ b. getD x (other + b) 0) (λ b. getD x (at + b) 0)
