@@ -7,7 +7,6 @@ use Prim.Native.Nat.{ℕ, _+_, _*_, _≤_, _<_}
 use native.Mathlib.Omega.{arith}
 use lib.Dec.{eqb, ltb}
 use lib.ListN.{length, getD, drop}
-use Rattle.lists.specs.Each.{Each}
 use Rattle.lists.proofs.Slice.{slice-at, slice-length}
 use Rattle.fields.specs.Fields.{twoBytes, opening}
 use Rattle.document.specs.declared.Numbers.{Numbers}
@@ -340,7 +339,8 @@ module _ (p : Numbers) (f : ℕ) (r : Recording) (x b : List ℕ) (e : answerNum
     total = bundle-length wanted r x cut-accepted array-size node cut-below ∙ length-is wanted node;
     field-01 = cut-first wanted cut-accepted r x array-size node cut-below .0;
     field-02 = cut-second wanted cut-accepted r x array-size node cut-below .0;
-    fields-03 = λ i l. sym (opening-is wanted bundle i) ∙ cut-opening wanted cut-accepted r x array-size node cut-below i l;
+    fields-03 = λ i l.
+        sym (opening-is wanted bundle i) ∙ cut-opening wanted cut-accepted r x array-size node cut-below i l;
   }
 
   headed-cut : Headed wanted node r bundle
@@ -355,7 +355,8 @@ module _ (p : Numbers) (f : ℕ) (r : Recording) (x b : List ℕ) (e : answerNum
   unfolding rebuildSentences bundleSentences recordingBytes
   unrefused y size q first =
       first-nowhere (length (planned wanted node)) _
-      (λ i l m. m (sym (scenario-is wanted bundle i) ∙ cut-recording wanted cut-accepted r x array-size node cut-below i l)) q
+      (λ i l m. m
+      (sym (scenario-is wanted bundle i) ∙ cut-recording wanted cut-accepted r x array-size node cut-below i l)) q
       (first-past (length (planned wanted node)) _
       (λ i l m. m (sym (place-is wanted bundle i) ∙ cut-place wanted cut-accepted r x array-size node cut-below i l)) q
       (first-later (λ m. m headed-cut) q

@@ -4,7 +4,7 @@ use mathlib.Core.Path.{_≡_, refl, sym, ap, subst, _∙_}
 use mathlib.Core.Logic.{_≢_, _⊎_, inl, inr}
 use mathlib.Core.Bool.{true, cond}
 use mathlib.Core.List.{List, _++_, map}
-use Prim.Native.Nat.{ℕ, zero, suc, _+_, _-_, _*_, _/_, _%_, _≤_, _<_, min}
+use Prim.Native.Nat.{ℕ, zero, suc, _+_, _-_, _*_, _/_, _%_, _≤_, _<_}
 use native.Mathlib.Nat.{mul-sub, mod-lt, div-add-mod', not-suc-le-zero, le-of-suc-le-suc}
 use native.Mathlib.Decide.{decLt}
 use native.Mathlib.Omega.{arith}
@@ -45,7 +45,18 @@ use Rattle.document.specs.declared.Node.{Node}
 use Rattle.document.specs.declared.Place.{Place}
 use Rattle.document.specs.Profile.{Accepted}
 use Rattle.document.specs.Places.{place, partnerOf, samePlace, Within}
-use Rattle.document.specs.Plan.{isOwn, rowAt, pairsAt, Walk, walkOf, stepTwo, stepThree, chosenOver, planOver, planned}
+use Rattle.document.specs.Plan.{
+  isOwn,
+  rowAt,
+  pairsAt,
+  Walk,
+  walkOf,
+  stepTwo,
+  stepThree,
+  chosenOver,
+  planOver,
+  planned,
+}
 use Rattle.document.specs.Rebuild.{positionOf}
 use Rattle.document.proofs.Decides.{decides-false, decides-place}
 use Rattle.document.proofs.Bounds.{A>0, group-within, partner-within}
@@ -83,10 +94,6 @@ module _ (A : ℕ) (f : Node) {R : ℕ → Type 0} {S : Place → Type 0} where
   unfolding pairsAt
   some-partner h (here r) = later (here (h _ r))
   some-partner h (later s) = later (later (some-partner h s))
-
--- steps 2 and 3 give k nodes, where g are there for step 2 and enough for step 3
-k-nodes : (k g off : ℕ) → k - g ≤ off → min k g + min (k - min k g) off ≡ k
-k-nodes k g off enough = omega arith
 
 module _ (p : Profile) (acc : Accepted p) (f : Node) (h : f .0 < p .n) (w : Walk)
     (sound : Sound (p .n) (p .a) f w) where
@@ -128,7 +135,7 @@ module _ (p : Profile) (acc : Accepted p) (f : Node) (h : f .0 < p .n) (w : Walk
         sound .diagonal-length,
         sound .off-diagonal-length,
       )
-      (k-nodes k (n / A - 1) ((n / A - 1) * (A - 1)) left)
+      (omega (arith, left))
 
   listed : {m : ℕ} → m < k → m < length nodes
   listed l = omega (arith, chosen-length)

@@ -4,12 +4,12 @@ use mathlib.Core.List.{List, _++_}
 use Prim.Native.Nat.{ℕ, zero, suc, _+_, _*_, _≤_, _<_}
 use native.Mathlib.Nat.{add-zero, zero-mul, suc-mul, add-assoc, not-suc-le-zero}
 use native.Mathlib.Omega.{arith}
-use lib.ListN.{length, getD, take, length-append}
+use lib.ListN.{length, getD, take}
 use lib.Seq.{take-length}
 use Rattle.lists.specs.Put.{slice}
-use Rattle.lists.proofs.Slice.{slice-left, slice-right, slice-length, slice-at}
+use Rattle.lists.proofs.Slice.{slice-left, slice-right, slice-at}
 use Rattle.lists.specs.Each.{Each, none, also}
-use Rattle.lists.proofs.Each.{each-at, each-from, each-map}
+use Rattle.lists.proofs.Each.{each-at, each-from}
 use Rattle.fields.specs.Fields.{twoBytes, fourBytes, opening, openingLength, fieldOf}
 use Rattle.fields.proofs.Fields.{field-length}
 use Rattle.document.specs.declared.Profile.{Profile}
@@ -18,8 +18,7 @@ use Rattle.document.specs.declared.Place.{Place}
 use Rattle.document.specs.declared.Recording.{Recording}
 use Rattle.document.specs.Places.{place, Within}
 use Rattle.document.specs.Profile.{Accepted}
-use Rattle.document.specs.Encoding.{start}
-use Rattle.document.specs.Plan.{walkOf, planned, plannedAt}
+use Rattle.document.specs.Plan.{planned, plannedAt}
 use Rattle.document.specs.Bundle.{
   recordingBytes,
   recordingLength,
@@ -30,7 +29,6 @@ use Rattle.document.specs.Bundle.{
   stripContent,
   stripLength,
   stripFieldLength,
-  bundleLength,
   stripOf,
   stripFields,
   bundleOf,
@@ -40,7 +38,14 @@ use Rattle.document.specs.Bundle.{
   stripIn,
 }
 use Rattle.document.proofs.Chosen.{plan-within}
-use Rattle.document.proofs.Bundle.{fieldAt, strip-length, content-length, strip-field-length, profile-length, lost-length}
+use Rattle.document.proofs.Bundle.{
+  fieldAt,
+  strip-length,
+  content-length,
+  strip-field-length,
+  profile-length,
+  lost-length,
+}
 
 module _ (p : Profile) (acc : Accepted p) (r : Recording) (x : List ℕ) (size : length x ≡ p .n * p .a * p .s) where
   abbrev field : Place → List ℕ

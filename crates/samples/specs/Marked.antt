@@ -20,7 +20,19 @@ use Rattle.document.specs.Refusals.{tried, answerNumber, answerValue}
 use Rattle.algebra.specs.Coupling.{base, factor}
 use Rattle.algebra.specs.Rebuild.{rowAt, otherAt, rebuiltAt}
 use Rattle.document.specs.Places.{samePlace}
-use Rattle.document.specs.Bundle.{recordingBytes, profileContent, lostContent, stripField, placeIn, recordingIn, formed, headed, placed, fresh, bundleTests}
+use Rattle.document.specs.Bundle.{
+  recordingBytes,
+  profileContent,
+  lostContent,
+  stripField,
+  placeIn,
+  recordingIn,
+  formed,
+  headed,
+  placed,
+  fresh,
+  bundleTests,
+}
 use Rattle.document.specs.Rebuild.{positionOf, givenAt, rebuiltOver, rebuiltOf, rebuildTests, rebuildOf}
 use Rattle.document.specs.Profile.{shapeAccepted, constantAccepted, stripAccepted, profileTests}
 use Rattle.document.specs.Bytes.{bytes, byte, number}
@@ -121,9 +133,11 @@ marked =
 
 -- Each marked case gives what document 01 says.
 pub shown : map (λ c. c .gives) marked ≡ map (λ c. c .says) marked
-unfolding marked lent encodeOf encodeTests profileTests shapeAccepted constantAccepted stripAccepted tried answerNumber
-    answerValue encoded laidOut coupledAt constantOf baseAt byteAt start listed sum weight byte number bytes _⊕_ _⊗_
-    double bitProduct raised inverse ℕ-discrete decLt planOf planTests planned planOver pairsAt planBytes isOwn isDiagonal
-    isOffDiagonal rising rebuildOf rebuildTests bundleTests formed headed placed fresh placeIn recordingIn stripField
-    plannedAt slice same all opening twoBytes fourBytes profileContent lostContent recordingBytes rebuiltOf rebuiltOver givenAt positionOf samePlace columnOf rebuiltAt rowAt otherAt base factor
+unfolding marked lent encodeOf encodeTests profileTests shapeAccepted constantAccepted stripAccepted tried
+    answerNumber answerValue encoded laidOut coupledAt constantOf baseAt byteAt start listed sum weight byte
+    number bytes _⊕_ _⊗_ double bitProduct raised inverse ℕ-discrete decLt planOf planTests planned planOver
+    pairsAt planBytes isOwn isDiagonal isOffDiagonal rising rebuildOf rebuildTests bundleTests formed headed
+    placed fresh placeIn recordingIn stripField plannedAt slice same all opening twoBytes fourBytes
+    profileContent lostContent recordingBytes rebuiltOf rebuiltOver givenAt positionOf samePlace columnOf
+    rebuiltAt rowAt otherAt base factor
 shown = refl
