@@ -115,7 +115,7 @@ same-refusal : (q r : Refusal) → Refused q ≡ Refused r → q ≡ r
 same-refusal q r e = cc
 
 -- an empty table has no first refusal
-first-none : (r : Refusal) → FirstOf [] r → ⊥
+pub first-none : (r : Refusal) → FirstOf [] r → ⊥
 first-none r = elim [ ]
 
 -- the first refusal of a table whose first condition holds

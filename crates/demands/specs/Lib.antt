@@ -2,3 +2,4 @@ pub mod Refusals
 pub mod Encoding
 pub mod Plan
 pub mod Rebuild
+pub mod Program

@@ -1,0 +1,51 @@
+-- The small program is an entry point too: 'Any bytes, any numbers, any time: every entry point answers'. What it
+-- writes, by the table of a rebuild.
+--
+-- ProgramWrites input : the column where the rebuild is not refused, otherwise the line of the first refusal, never of 5
+-- Demand1Program      : so it is for all inputs
+-- Shown in proofs/Program.antt: demand-1-program.
+use mathlib.Core.Path.{_≡_}
+use mathlib.Core.List.{List}
+use Prim.Native.Nat.{ℕ, _*_}
+use lib.ListN.{drop, replicate}
+use Rattle.document.specs.declared.Numbers.{Numbers}
+use Rattle.document.specs.declared.Recording.{Recording}
+use Rattle.document.specs.declared.Refusal.{Refusal}
+use Rattle.document.specs.declared.Refusal.the-variants.{BufferLength}
+use Rattle.document.specs.Rebuild.{rebuildOf}
+use Rattle.document.specs.Program.{programHead, wantedNumbers, wantedNode, wantedRecording, lineOf, programOf}
+use Rattle.demands.specs.Refusals.{Sentence, FirstOf, rebuildSentences}
+use Rattle.demands.specs.Rebuild.{Rebuilt}
+
+module _ (input : List ℕ) where
+  abbrev pub wanted : Numbers
+  wanted = wantedNumbers input
+
+  abbrev node : ℕ
+  node = wantedNode input
+
+  abbrev recording : Recording
+  recording = wantedRecording input
+
+  -- 'and then a bundle, which is all that follows'
+  abbrev bundle : List ℕ
+  bundle = drop programHead input
+
+  -- the column that the program lends
+  abbrev pub lent : List ℕ
+  lent = replicate (wanted .a * wanted .s) 0
+
+  abbrev pub table : List Sentence
+  table = rebuildSentences wanted node recording bundle lent
+
+  pub record ProgramWrites : Type 1 where
+    -- 'It writes the column's bytes'
+    pub column : Rebuilt wanted node recording bundle lent
+        → programOf input ≡ rebuildOf wanted node recording bundle lent .1
+    -- 'or one line .. with the number and the strip's index'
+    pub line : (q : Refusal) → FirstOf table q → programOf input ≡ lineOf q
+    -- the lent column has the right length
+    pub never-five : FirstOf table BufferLength → ⊥
+
+abbrev pub Demand1Program : Type 1
+Demand1Program = (input : List ℕ) → ProgramWrites input
