@@ -13,7 +13,15 @@
  *   7  the content of its field 01 or 02 is not the wanted profile, node and scenario
  *   8  a strip's place is not the plan's             9  a strip's scenario is not the wanted one
  * The first in this order that applies is the answer: a misplaced strip goes before a stale one, wherever they stand.
- * With 8 and 9 comes the index of the first such strip, from 0; with the others 0.
+ * With 8 and 9 comes the index of the first such strip, from 0 in plan order; with the others 0.
+ *
+ * A bundle is fields of a one-byte tag, a two-byte length and content, all numbers high byte first:
+ *   01 00 06  n, k, a, t, s in two bytes
+ *   02 00 05  lost node, scenario in four bytes
+ *   03 and the length 6 + s, once for each place of the plan, in its order: node, row, scenario in four bytes, the strip
+ * A host that fetches the planned strips itself can put one together.
+ *
+ * A rebuild takes some 20 KB of stack, the other calls less.
  */
 #ifndef WHAUPFIELD_H
 #define WHAUPFIELD_H
@@ -28,14 +36,15 @@
 extern "C" {
 #endif
 
-/* Encode: writes the n*a*s bytes of the encoded array of k*a*s bytes of data. Value 0. */
+/* Encode: writes the n*a*s bytes of the encoded array of k*a*s bytes of data. Value 0. Refused with 1, 2, 3 or 5. */
 uint64_t whaupfield_encode(size_t n, size_t k, size_t a, size_t t, size_t s,
                            const uint8_t *data, size_t data_length,
                            uint8_t *array, size_t array_length);
 
 /* Plan: writes the places that are read to rebuild the lost node, two bytes each, node first, then row; bytes past them
- * stay, and a buffer shorter than that is 5. Value: the number of places, the same for every lost node. Peers call it the
- * fragments needed. */
+ * stay, and a buffer shorter than that is 5; 76 bytes hold any plan. Value: the number of places,
+ * a-1 + k + max(0, k - (n/a - 1)), the same for every lost node. Refused with 1 to 5. Other libraries call it the fragments
+ * needed. */
 uint64_t whaupfield_plan(size_t n, size_t k, size_t a, size_t t, size_t s, size_t lost,
                          uint8_t *places, size_t places_length);
 
@@ -49,7 +58,7 @@ uint64_t whaupfield_write_bundle(size_t n, size_t k, size_t a, size_t t, size_t 
 
 /* Rebuild: writes the a*s bytes of the lost node's column, row 0 first, from a bundle for the wanted profile, node and
  * scenario. The bundle may be any bytes of any length: one that is not in order is 6, 7, 8 or 9, never 5. A buffer for
- * the column that has not a*s bytes is 5. Value 0. Refused with 1 to 9. Peers call it reconstruct. */
+ * the column that has not a*s bytes is 5. Value 0. Refused with 1 to 9. Other libraries call it reconstruct. */
 uint64_t whaupfield_rebuild(size_t n, size_t k, size_t a, size_t t, size_t s, size_t lost, uint32_t scenario,
                             const uint8_t *bundle, size_t bundle_length,
                             uint8_t *column, size_t column_length);

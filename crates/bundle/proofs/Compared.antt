@@ -1,12 +1,12 @@
 -- The tests of a bundle, by what the comparisons find.
-use mathlib.Core.Path.{_≡_, refl, sym, ap, ap₂, _∙_}
-use mathlib.Core.Bool.{Bool, true, false, _&&_}
+use mathlib.Core.Path.{_≡_, sym, ap, ap₂, _∙_}
+use mathlib.Core.Bool.{true, false, _&&_}
 use mathlib.Core.List.{List, [], _∷_}
 use Prim.Native.Nat.{ℕ, _+_, _*_, _<_}
 use native.Mathlib.Omega.{arith}
 use lib.Dec.{eqb}
 use lib.ListN.{length, getD, List·getD-append}
-use borrow.Author.Tests.{eqb-true, eq-eqb, ne-eqb}
+use borrow.Author.Tests.{eq-eqb, ne-eqb}
 use Rattle.lists.specs.Listed.{all}
 use Rattle.lists.specs.Put.{slice, same, put, Wrote}
 use Rattle.fields.specs.Fields.{twoBytes, fourBytes, opening}
@@ -17,35 +17,24 @@ use Rattle.document.specs.declared.Recording.{Recording}
 use Rattle.document.specs.Profile.{Accepted}
 use Rattle.document.specs.Places.{place, samePlace}
 use Rattle.document.specs.Plan.{planned, plannedAt, planBytes, priceOf}
-use Rattle.document.specs.Bundle.{
-  recordingBytes,
-  profileContent,
-  lostContent,
-  stripLength,
-  stripField,
-  placeIn,
-  recordingIn,
-  formed,
-  headed,
-  placed,
-  fresh,
-}
+use Rattle.document.specs.Bundle.{recordingBytes, profileContent, lostContent, stripContentLength, stripFieldStart, placeIn, recordingIn, formed, headed, placed, fresh, headLength, stripFieldLength, openedAt}
 use Rattle.document.proofs.Price.{price-bound}
+use Rattle.document.proofs.Bundle.{formed-length}
 use Rattle.document.proofs.PlanBytes.{bytes-length, bytes-place}
-use Rattle.bundle.specs.Reader.{Fits, openedAt, placedBy}
+use Rattle.bundle.specs.Reader.{HasFields, placedBy}
 
 module _ (p : Profile) (b : List ℕ) where
   open Profile p using (n, k, a as A, t, s as S)
 
   -- a bundle as long as the fields of the planned places
-  pub fits-whole : {m : ℕ} → Accepted p → m ≡ priceOf n k A → length b ≡ stripField p m → Fits p m b
+  pub fits-whole : {m : ℕ} → Accepted p → m ≡ priceOf n k A → length b ≡ stripFieldStart p m → HasFields p m b
   fits-whole acc price whole = record {
     accepted = acc;
     few = omega (arith, price, price-bound p acc);
     room = omega (arith, whole);
   }
 
-  pub opened-is : {at : ℕ} {size : List ℕ} (i : ℕ) → at ≡ stripField p i → size ≡ twoBytes (stripLength S)
+  pub opened-is : {at : ℕ} {size : List ℕ} (i : ℕ) → at ≡ stripFieldStart p i → size ≡ twoBytes (stripContentLength S)
       → same (slice b at 3) (3 ∷ getD size 0 0 ∷ getD size 1 0 ∷ []) ≡ openedAt p b i
   unfolding openedAt opening twoBytes
   opened-is i e d = rw (e, d)
@@ -53,22 +42,20 @@ module _ (p : Profile) (b : List ℕ) where
   -- refusal 6
   module _ (f : Node) {m : ℕ} (count : m ≡ length (planned p f)) where
     formed-is : formed p f b
-        ≡ eqb (length b) (stripField p m)
+        ≡ eqb (length b) (stripFieldStart p m)
         && (same (slice b 0 3) (1 ∷ 0 ∷ 6 ∷ []) && (same (slice b 9 3) (2 ∷ 0 ∷ 5 ∷ []) && all m (openedAt p b)))
-    unfolding formed stripField openedAt opening twoBytes
+    unfolding formed stripFieldStart openedAt opening twoBytes
     formed-is = rw count
 
-    pub formed-length : formed p f b ≡ true → length b ≡ stripField p m
-    formed-length e = eqb-true _ _ (first _ _ (sym formed-is ∙ e))
-      where
-        first : (c d : Bool) → c && d ≡ true → c ≡ true
-        first true d h = refl
-        first false d h = h
+    pub formed-whole : formed p f b ≡ true → length b ≡ stripFieldStart p m
+    unfolding stripFieldStart
+    formed-whole e =
+        formed-length p f b e ∙ ap (λ (c : ℕ). headLength + c * stripFieldLength S) (sym count)
 
-    pub not-whole : (length b ≡ stripField p m → ⊥) → false ≡ formed p f b
+    pub not-whole : (length b ≡ stripFieldStart p m → ⊥) → false ≡ formed p f b
     not-whole h = sym (formed-is ∙ rw (ne-eqb _ _ h))
 
-    module _ (whole : length b ≡ stripField p m) where
+    module _ (whole : length b ≡ stripFieldStart p m) where
       pub not-first : same (slice b 0 3) (1 ∷ 0 ∷ 6 ∷ []) ≡ false → false ≡ formed p f b
       not-first h = sym (formed-is ∙ rw (eq-eqb _ _ whole, h))
 
@@ -98,7 +85,7 @@ module _ (p : Profile) (b : List ℕ) where
     headed-left h e = sym (rw (← profile-is, h, e))
 
   -- refusal 8
-  module _ (plan : List ℕ) {at : ℕ} (i : ℕ) (e : at ≡ stripField p i) where
+  module _ (plan : List ℕ) {at : ℕ} (i : ℕ) (e : at ≡ stripFieldStart p i) where
     pub other-node : (getD b (at + 3) 0 ≡ getD plan (2 * i) 0 → ⊥) → false ≡ placedBy p plan b i
     unfolding placedBy samePlace placeIn
     other-node h = sym (rw (← e, ne-eqb _ _ h))
@@ -123,7 +110,7 @@ module _ (p : Profile) (b : List ℕ) where
       ∙ bytes-place (planned p f) i)
 
   -- refusal 9
-  pub fresh-is : (r : Recording) {at : ℕ} {id : List ℕ} (i : ℕ) → at ≡ stripField p i → id ≡ fourBytes (r .scenario)
+  pub fresh-is : (r : Recording) {at : ℕ} {id : List ℕ} (i : ℕ) → at ≡ stripFieldStart p i → id ≡ fourBytes (r .scenario)
       → same (slice b (at + 3 + 2) (length id)) id ≡ fresh p r b i
   unfolding fresh recordingIn recordingBytes fourBytes
   fresh-is r i e d = rw (e, d)

@@ -8,9 +8,9 @@ use lib.ListN.{length}
 use Rattle.document.specs.declared.Profile.{Profile}
 use Rattle.document.specs.Profile.{Accepted, maxStrip}
 use Rattle.document.specs.Plan.{maxPlaces}
-use Rattle.document.specs.Bundle.{headLength, stripFieldLength, stripField}
+use Rattle.document.specs.Bundle.{headLength, stripFieldLength, stripFieldStart}
 use Rattle.document.proofs.Bounds.{room}
-use Rattle.bundle.specs.Reader.{Fits}
+use Rattle.bundle.specs.Reader.{HasFields}
 
 module _ (p : Profile) where
   open Profile p using (s as S)
@@ -24,8 +24,8 @@ module _ (p : Profile) where
 
   module _ (b : List ℕ) where
     -- the fields of the strips before one more
-    pub fits-front : (count i : ℕ) → Fits p count b → i < count → Fits p (i + 1) b
-    unfolding stripField
+    pub fits-front : (count i : ℕ) → HasFields p count b → i < count → HasFields p (i + 1) b
+    unfolding stripFieldStart
     fits-front count i fits l = record {
       accepted = fits .accepted;
       few = omega (arith, fits .few);
@@ -35,13 +35,13 @@ module _ (p : Profile) where
           omega (arith, fits .room, room i count w l, one);
     }
 
-    pub field-room : (i : ℕ) → Fits p (i + 1) b → stripField p i + stripFieldLength S ≤ length b
-    unfolding stripField
+    pub field-room : (i : ℕ) → HasFields p (i + 1) b → stripFieldStart p i + stripFieldLength S ≤ length b
+    unfolding stripFieldStart
     field-room i fits =
         let w : ℕ = stripFieldLength S in
         let one : (i + 1) * w ≡ i * w + w = rw (add-mul, one-mul) in
         omega (arith, fits .room, one)
 
-    pub head-room : {count : ℕ} → Fits p count b → headLength ≤ length b
-    unfolding stripField
+    pub head-room : {count : ℕ} → HasFields p count b → headLength ≤ length b
+    unfolding stripFieldStart
     head-room fits = omega (arith, fits .room)

@@ -17,7 +17,7 @@ use Rattle.document.specs.Profile.{Accepted}
 use Rattle.document.specs.Places.{place, Within}
 use Rattle.document.specs.Encoding.{start}
 use Rattle.document.specs.Plan.{planBytes}
-use Rattle.document.specs.Bundle.{recordingBytes, stripContent, stripLength, stripFieldLength, stripOf, stripFields}
+use Rattle.document.specs.Bundle.{recordingBytes, stripContent, stripContentLength, stripFieldLength, stripOf, stripFields}
 use Rattle.document.proofs.Bounds.{room}
 use Rattle.document.proofs.PlanBytes.{bytes-length, bytes-place}
 use Rattle.document.proofs.Bundle.{content-length, fields-length}
@@ -53,13 +53,13 @@ cut-length x from m h = simp (length-take, length-drop) (omega arith)
 module _ (p : Profile) (acc : Accepted p) (r : Recording) (x : List ℕ) (size : length x ≡ p .n * p .a * p .s) where
   -- the parts of a field 03, as they are written one after the other
   pub strip-parts : (q : Place) → Within p q → (from : ℕ) → from ≡ start p q
-      → ((opening 3 (stripLength (p .s)) ++ (q .node .0 ∷ q .row .0 ∷ [])) ++ recordingBytes r)
+      → ((opening 3 (stripContentLength (p .s)) ++ (q .node .0 ∷ q .row .0 ∷ [])) ++ recordingBytes r)
       ++ take (from + p .s - from) (drop from x)
       ≡ fieldOf 3 (stripContent q r (stripOf p x q))
   unfolding fieldOf opening twoBytes stripContent stripOf slice
   strip-parts q within from e =
       let cut : from + p .s - from ≡ p .s = omega arith in
-      let m : length (stripContent q r (stripOf p x q)) ≡ stripLength (p .s) = content-length p r x acc size q within in
+      let m : length (stripContent q r (stripOf p x q)) ≡ stripContentLength (p .s) = content-length p r x acc size q within in
       rw (cut, e, m) refl
 
   -- after i of the fields there is room for one more

@@ -1,7 +1,6 @@
 -- What the functions of a reader find.
 --
--- Fits p count b      : the profile p is accepted, and b has the head and the fields 03 of count strips in it
--- openedAt p b i      : the test of the tag and the length of strip i's field
+-- HasFields p count b      : the profile p is accepted, and b has the head and the fields 03 of count strips in it
 -- placedBy p plan b i : the test of strip i's place, against the bytes of a plan
 -- FirstNot P n i      : i is the first number below n for which the test P fails, or n if there is none
 use mathlib.Core.Path.{_≡_}
@@ -9,21 +8,16 @@ use mathlib.Core.Bool.{Bool, true, false}
 use mathlib.Core.List.{List}
 use Prim.Native.Nat.{ℕ, _+_, _*_, _≤_, _<_}
 use lib.ListN.{length, getD}
-use Rattle.lists.specs.Put.{slice, same}
-use Rattle.fields.specs.Fields.{opening, openingLength}
 use Rattle.document.specs.declared.Profile.{Profile}
 use Rattle.document.specs.Profile.{Accepted}
 use Rattle.document.specs.Places.{place, samePlace}
 use Rattle.document.specs.Plan.{maxPlaces}
-use Rattle.document.specs.Bundle.{stripLength, stripField, placeIn}
+use Rattle.document.specs.Bundle.{stripFieldStart, placeIn}
 
-pub record Fits (p : Profile) (count : ℕ) (b : List ℕ) : Type 0 where
+pub record HasFields (p : Profile) (count : ℕ) (b : List ℕ) : Type 0 where
   pub accepted : Accepted p
   pub few : count ≤ maxPlaces
-  pub room : stripField p count ≤ length b
-
-unfoldable pub openedAt : Profile → List ℕ → ℕ → Bool
-openedAt p b i = same (slice b (stripField p i) openingLength) (opening 3 (stripLength (p .s)))
+  pub room : stripFieldStart p count ≤ length b
 
 unfoldable pub placedBy : Profile → List ℕ → List ℕ → ℕ → Bool
 placedBy p plan b i = samePlace (placeIn p b i) (place (getD plan (2 * i) 0) (getD plan (2 * i + 1) 0))

@@ -7,9 +7,9 @@ ghost use Rattle.fields.specs.Fields.{openingLength, fieldOf};
 ghost use Rattle.document.specs.Profile.{Accepted};
 ghost use Rattle.document.specs.Places.{place, Within};
 ghost use Rattle.document.specs.Plan.{planned, priceOf, maxPlaces};
-ghost use Rattle.document.specs.Bundle.{recordingBytes, recordingLength, profileContent, profileLength};
-ghost use Rattle.document.specs.Bundle.{lostContent, lostLength, stripContent, stripOf, headLength, stripFieldLength};
-ghost use Rattle.document.specs.Bundle.{stripFields, bundleLength, bundleOf, writeOf, stripField};
+ghost use Rattle.document.specs.Bundle.{recordingBytes, recordingLength, profileContent, profileContentLength};
+ghost use Rattle.document.specs.Bundle.{lostContent, lostContentLength, stripContent, stripOf, headLength};
+ghost use Rattle.document.specs.Bundle.{stripFieldLength, stripFields, bundleLength, bundleOf, writeOf, stripFieldStart};
 
 mod reader;
 
@@ -22,11 +22,11 @@ use document::Profile;
 use document::Recording;
 use document::Refusal;
 use document::Row;
+use fields::OPENING;
+use plan::MAX_PLACES;
 pub use reader::check;
 
-// How many bytes: a field's tag and length; the contents of fields 01 and 02; field 03's content up to its strip.
-const OPENING: usize = 3;
-
+// How many bytes the contents of fields 01 and 02 take, and that of a field 03 before its strip.
 const PROFILE: usize = 6;
 
 const LOST: usize = 1 + Recording::BYTES;
@@ -35,9 +35,6 @@ const PLACED: usize = 2 + Recording::BYTES;
 
 // The bytes of fields 01 and 02 together.
 const HEAD: usize = OPENING + PROFILE + OPENING + LOST;
-
-// No plan of an accepted profile has more places.
-const MAX_PLACES: usize = 38;
 
 // The length of the longest bundle.
 pub const LONGEST: usize = HEAD + MAX_PLACES * (OPENING + PLACED + Profile::MAX_STRIP);
@@ -56,9 +53,9 @@ pub fn strip_stride(p: Profile) -> usize
 // Where the field 03 of strip i starts.
 fn strip_field(p: Profile, i: usize) -> usize
     requires { ⌜ Accepted p × (i ≤ maxPlaces) ⌝ }
-    ensures { λ r. ⌜ r ≡ stripField p i ⌝ }
+    ensures { λ r. ⌜ r ≡ stripFieldStart p i ⌝ }
 {
-    HEAD + i * (OPENING + (PLACED + p.s))
+    HEAD + i * strip_stride(p)
 }
 
 // The length of a bundle: the same for every lost node.
@@ -91,7 +88,7 @@ fn put_recording(out: &mut [u8], at: usize, r: Recording) -> usize
 
 // Writes field 01: the profile.
 fn put_profile(out: &mut [u8], at: usize, p: Profile) -> usize
-    requires { ⌜ Accepted p × (at + (openingLength + profileLength) ≤ length (now out)) ⌝ }
+    requires { ⌜ Accepted p × (at + (openingLength + profileContentLength) ≤ length (now out)) ⌝ }
     ensures { λ next. ⌜ Wrote (now (out .entry)) at (fieldOf 1 (profileContent p)) next (now (out .exit)) ⌝ }
 {
     let opened = fields::put_bytes(out, at, b"\x01\x00\x06");
@@ -102,7 +99,7 @@ fn put_profile(out: &mut [u8], at: usize, p: Profile) -> usize
 
 // Writes field 02: the lost node and the recording.
 fn put_lost(out: &mut [u8], at: usize, f: Node, r: Recording) -> usize
-    requires { ⌜ (f .0 < 256) × (at + (openingLength + lostLength) ≤ length (now out)) ⌝ }
+    requires { ⌜ (f .0 < 256) × (at + (openingLength + lostContentLength) ≤ length (now out)) ⌝ }
     ensures { λ next. ⌜ Wrote (now (out .entry)) at (fieldOf 2 (lostContent f r)) next (now (out .exit)) ⌝ }
 {
     let opened = fields::put_bytes(out, at, b"\x02\x00\x05");

@@ -8,10 +8,8 @@ ghost use Rattle.document.specs.Refusals.{tried};
 ghost use Rattle.document.specs.Profile.{Accepted};
 ghost use Rattle.document.specs.Plan.{planned};
 ghost use Rattle.document.specs.Bundle;
-ghost use Rattle.document.specs.Bundle.{headLength, bundleTests};
-ghost use Rattle.bundle.specs.Reader.{Fits, openedAt, placedBy, FirstNot};
-use crate::MAX_PLACES;
-use crate::OPENING;
+ghost use Rattle.document.specs.Bundle.{headLength, bundleTests, openedAt};
+ghost use Rattle.bundle.specs.Reader.{HasFields, placedBy, FirstNot};
 use crate::PLACED;
 use crate::PROFILE;
 use crate::strip_field;
@@ -20,10 +18,12 @@ use document::Node;
 use document::Profile;
 use document::Recording;
 use document::Refusal;
+use fields::OPENING;
+use plan::MAX_PLACES;
 
 // Whether the field 03 of strip i opens with its tag and length.
 fn opened(p: Profile, b: &[u8], i: usize) -> bool
-    requires { ⌜ Fits p (i + 1) (now b) ⌝ }
+    requires { ⌜ HasFields p (i + 1) (now b) ⌝ }
     ensures { λ r. ⌜ r ≡ openedAt p (now (b .entry)) i ⌝ }
 {
     let length = fields::two_bytes(PLACED + p.s);
@@ -33,7 +33,7 @@ fn opened(p: Profile, b: &[u8], i: usize) -> bool
 
 // Whether all fields 03 do.
 fn all_opened(p: Profile, b: &[u8], count: usize) -> bool
-    requires { ⌜ Fits p count (now b) ⌝ }
+    requires { ⌜ HasFields p count (now b) ⌝ }
     ensures { λ r. ⌜ r ≡ all count (openedAt p (now (b .entry))) ⌝ }
 {
     let mut i: usize = 0;
@@ -46,10 +46,10 @@ fn all_opened(p: Profile, b: &[u8], count: usize) -> bool
     true
 }
 
-// Whether the total length, the tags and the field lengths are those of the profile: the same for every lost node.
-fn formed(p: Profile, b: &[u8]) -> bool
-    requires { ⌜ Accepted p ⌝ }
-    ensures { λ r. ⌜ ((f : Node) → f .0 < p .n → r ≡ Bundle.formed p f (now (b .entry))) ⌝ }
+// Whether the total length, the tags and the field lengths are the wanted ones.
+fn formed(p: Profile, f: Node, b: &[u8]) -> bool
+    requires { ⌜ Accepted p × (f .0 < p .n) ⌝ }
+    ensures { λ r. ⌜ r ≡ Bundle.formed p f (now (b .entry)) ⌝ }
 {
     let count = plan::price(p);
     if b.len() != strip_field(p, count) {
@@ -87,7 +87,7 @@ fn headed(p: Profile, f: Node, r: Recording, b: &[u8]) -> bool
 
 // Whether strip i has the place that the plan's bytes have for it.
 fn placed(p: Profile, plan: &[u8], b: &[u8], i: usize) -> bool
-    requires { ⌜ Fits p (i + 1) (now b) × (2 * (i + 1) ≤ length (now plan)) ⌝ }
+    requires { ⌜ HasFields p (i + 1) (now b) × (2 * (i + 1) ≤ length (now plan)) ⌝ }
     ensures { λ r. ⌜ r ≡ placedBy p (now (plan .entry)) (now (b .entry)) i ⌝ }
 {
     let at = strip_field(p, i) + OPENING;
@@ -99,7 +99,7 @@ fn placed(p: Profile, plan: &[u8], b: &[u8], i: usize) -> bool
 
 // The first strip that has another place than the plan's bytes have for it, or the number of strips.
 fn first_off(p: Profile, plan: &[u8], b: &[u8], count: usize) -> usize
-    requires { ⌜ Fits p count (now b) × (2 * count ≤ length (now plan)) ⌝ }
+    requires { ⌜ HasFields p count (now b) × (2 * count ≤ length (now plan)) ⌝ }
     ensures { λ r. ⌜ FirstNot (placedBy p (now (plan .entry)) (now (b .entry))) count r ⌝ }
 {
     let mut i: usize = 0;
@@ -114,7 +114,7 @@ fn first_off(p: Profile, plan: &[u8], b: &[u8], count: usize) -> usize
 
 // The first strip whose place differs from the plan's, or the number of strips.
 fn first_misplaced(p: Profile, f: Node, b: &[u8], count: usize) -> usize
-    requires { ⌜ Fits p count (now b) × (f .0 < p .n) × (count ≡ length (planned p f)) ⌝ }
+    requires { ⌜ HasFields p count (now b) × (f .0 < p .n) × (count ≡ length (planned p f)) ⌝ }
     ensures { λ r. ⌜ FirstNot (Bundle.placed p f (now (b .entry))) count r ⌝ }
 {
     let mut places = [0u8; 2 * MAX_PLACES];
@@ -124,7 +124,7 @@ fn first_misplaced(p: Profile, f: Node, b: &[u8], count: usize) -> usize
 
 // Whether strip i is of the wanted recording.
 fn fresh(p: Profile, r: Recording, b: &[u8], i: usize) -> bool
-    requires { ⌜ Fits p (i + 1) (now b) ⌝ }
+    requires { ⌜ HasFields p (i + 1) (now b) ⌝ }
     ensures { λ t. ⌜ t ≡ Bundle.fresh p r (now (b .entry)) i ⌝ }
 {
     let want = fields::four_bytes(r.scenario);
@@ -133,7 +133,7 @@ fn fresh(p: Profile, r: Recording, b: &[u8], i: usize) -> bool
 
 // The first strip of another recording, or the number of strips.
 fn first_stale(p: Profile, r: Recording, b: &[u8], count: usize) -> usize
-    requires { ⌜ Fits p count (now b) ⌝ }
+    requires { ⌜ HasFields p count (now b) ⌝ }
     ensures { λ i. ⌜ FirstNot (Bundle.fresh p r (now (b .entry))) count i ⌝ }
 {
     let mut i: usize = 0;
@@ -151,7 +151,7 @@ pub fn check(p: Profile, f: Node, r: Recording, bundle: &[u8]) -> Answer
     requires { ⌜ Accepted p × (f .0 < p .n) ⌝ }
     ensures { λ a. ⌜ a ≡ tried (bundleTests p f r (now (bundle .entry))) Refused (Done 0) ⌝ }
 {
-    if !formed(p, bundle) {
+    if !formed(p, f, bundle) {
         return Answer::Refused(Refusal::BundleForm);
     }
     if !headed(p, f, r, bundle) {

@@ -1,4 +1,5 @@
--- Demand 1: a call that tries its tests in order refuses exactly as the table says; encoding does.
+-- Demand 1: a call that tries its tests in order refuses exactly as the table says; encoding, planning, writing a bundle
+-- and rebuilding do.
 use mathlib.Core.Path.{_≡_, refl, sym, ap, ap₂, _∙_}
 use mathlib.Core.Logic.{_⊎_, inl, inr}
 use mathlib.Core.Bool.{Bool, true, false, false≢true}
@@ -43,9 +44,10 @@ use Rattle.document.specs.Bundle.{
   bundleLength,
   writeTests,
   writeOf,
-  stripField,
+  stripFieldStart,
   placeIn,
   recordingIn,
+  openedAt,
   formed,
   headed,
   placed,
@@ -141,19 +143,6 @@ outside S n = go (ℕ-discrete S 0) (decLt 512 S)
 inside : (S : ℕ) → (S ≡ 0) ⊎ (512 < S) → (1 ≤ S) × (S ≤ 512) → ⊥
 inside S (inl e) h = omega arith
 inside S (inr l) h = omega arith
-
--- a function of what a call that tries its tests in order gives
-pub tried-map : {X Y : Type 0} (g : X → Y) (tests : List Test) (refuse : Refusal → X) (x : X)
-    → g (tried tests refuse x) ≡ tried tests (λ r. g (refuse r)) (g x)
-unfolding tried
-tried-map g [] refuse x = refl
-tried-map g (test ∷ tests) refuse x = go (test .holds) (tried-map g tests refuse x)
-  where
-    go : (b : Bool) → g (tried tests refuse x) ≡ tried tests (λ r. g (refuse r)) (g x)
-        → g (tried (record { refusal = test .refusal; holds = b } ∷ tests) refuse x)
-        ≡ tried (record { refusal = test .refusal; holds = b } ∷ tests) (λ r. g (refuse r)) (g x)
-    go true h = refl
-    go false h = h
 
 -- what is decided and not refuted holds
 pub decided : {P : Type 0} (b : Bool) → Decides b P → ((P → ⊥) → ⊥) → P
@@ -309,28 +298,28 @@ demand-1-plan p f x = record {
         (line refl (decides-not _ (decides-lt f (p .n))) (line refl (decides-lt (length x) _) none))
 
 -- the numbers of document 01, 17 + i(9+S), are where a field 03 starts, and what its parts are counted from
-field-is : (p : Profile) (i : ℕ) → stripField p i ≡ 17 + i * (9 + p .s)
-unfolding stripField
+field-is : (p : Profile) (i : ℕ) → stripFieldStart p i ≡ 17 + i * (9 + p .s)
+unfolding stripFieldStart
 field-is p i =
     let e : stripFieldLength (p .s) ≡ 9 + p .s = omega arith in ap (λ (w : ℕ). 17 + i * w) e
 
 pub length-is : (p : Profile) (f : Node) → bundleLength p f ≡ 17 + length (planned p f) * (9 + p .s)
-unfolding stripField
+unfolding stripFieldStart
 length-is p f = field-is p (length (planned p f))
 
 pub place-is : (p : Profile) (b : List ℕ) (i : ℕ) → placeIn p b i ≡ placeRead p b i
 unfolding placeIn
 place-is p b i =
-    let e : stripField p i + 3 + 1 ≡ 17 + i * (9 + p .s) + 4 = omega (arith, field-is p i) in
+    let e : stripFieldStart p i + 3 + 1 ≡ 17 + i * (9 + p .s) + 4 = omega (arith, field-is p i) in
     ap₂ (λ (u v : ℕ). place (getD b u 0) (getD b v 0)) (ap (λ (m : ℕ). m + 3) (field-is p i)) e
 
 pub scenario-is : (p : Profile) (b : List ℕ) (i : ℕ) → recordingIn p b i ≡ scenarioRead p b i
 unfolding recordingIn
 scenario-is p b i =
-    let e : stripField p i + 3 + 2 ≡ 17 + i * (9 + p .s) + 5 = omega (arith, field-is p i) in
+    let e : stripFieldStart p i + 3 + 2 ≡ 17 + i * (9 + p .s) + 5 = omega (arith, field-is p i) in
     ap (λ (u : ℕ). slice b u 4) e
 
-pub opening-is : (p : Profile) (b : List ℕ) (i : ℕ) → slice b (stripField p i) 3 ≡ slice b (17 + i * (9 + p .s)) 3
+pub opening-is : (p : Profile) (b : List ℕ) (i : ℕ) → slice b (stripFieldStart p i) 3 ≡ slice b (17 + i * (9 + p .s)) 3
 opening-is p b i = ap (λ (u : ℕ). slice b u 3) (field-is p i)
 
 -- So does the writing of a bundle.
@@ -395,7 +384,7 @@ map-append (x ∷ a) b g = ap (λ (l : List ℕ). g x ∷ l) (map-append a b g)
 
 module _ (p : Profile) (f : Node) (r : Recording) (b : List ℕ) where
   pub decides-formed : Decides (formed p f b) (Formed p f b)
-  unfolding formed opening twoBytes
+  unfolding formed openedAt opening twoBytes
   decides-formed =
       decides-same _
       (decides-both _ _ (decides-eq (length b) (bundleLength p f))

@@ -32,12 +32,13 @@ use Rattle.document.specs.Bundle.{
   bundleOf,
   writeTests,
   writeOf,
-  stripField,
+  stripFieldStart,
   stripIn,
   bundleTests,
 }
 use Rattle.document.specs.Rebuild.{rebuiltOf, firstStrip, rebuildTests, rebuildOf}
 use Rattle.document.proofs.Decides.{decides-lt, decides-eq}
+use Rattle.document.proofs.Tried.{tried-map}
 use Rattle.document.proofs.Bounds.{room, A>0}
 use Rattle.document.proofs.Walks.{Sound, complete-sound, walk-complete, walk-sound}
 use Rattle.document.proofs.Price.{over-price, planned-price}
@@ -74,7 +75,7 @@ use Rattle.demands.specs.Rebuild.{
   WrittenBundle,
   Demand3Write,
   CutFrom,
-  Rebuilt,
+  NotRefused,
   RebuiltColumn,
   Demand3Rebuild,
   SameStrips,
@@ -92,7 +93,6 @@ use Rattle.demands.proofs.Demand1.{
   first-past,
   first-nowhere,
   tried-done,
-  tried-map,
   done-accepted,
   done-later,
   accepted-later,
@@ -164,7 +164,7 @@ one-column p acc f h w complete x y X Y alike =
     ∙ column-of p acc f h w sound y Y strips (λ i l. refl) (byteAt p y) (array-gives p acc f h w sound y)
 
 -- A rebuild that is not refused.
-module _ (p : Numbers) (f : ℕ) (r : Recording) (b y : List ℕ) (e : Rebuilt p f r b y) where
+module _ (p : Numbers) (f : ℕ) (r : Recording) (b y : List ℕ) (e : NotRefused p f r b y) where
   abbrev profile : Profile
   profile = profileOf p
 
@@ -209,11 +209,11 @@ module _ (p : Numbers) (f : ℕ) (r : Recording) (b y : List ℕ) (e : Rebuilt p
   -- the strips of the bundle are whole
   strips-whole : Bytes b → (i : ℕ) → i < length (planned profile lost)
       → (length (stripIn profile b i) ≡ p .s) × Bytes (stripIn profile b i)
-  unfolding stripIn stripField
+  unfolding stripIn stripFieldStart
   strips-whole small i l =
       (size, λ o m. rw (slice-at b _ (p .s) o (omega (arith, size))) (small _ (omega (arith, size, within))))
     where
-      within : stripField profile i + stripFieldLength (p .s) ≤ length b
+      within : stripFieldStart profile i + stripFieldLength (p .s) ≤ length b
       within =
           omega (arith, room i (length (planned profile lost)) (stripFieldLength (p .s)) l, is-formed .total)
 
@@ -237,7 +237,7 @@ module _ (p : Numbers) (f : ℕ) (r : Recording) (b y : List ℕ) (e : Rebuilt p
     column = column-done;
   }
 
-pub demand-3-rebuild : Demand3Rebuild
+pub demand-3-rebuild : (p : Numbers) (f : ℕ) → Demand3Rebuild p f
 demand-3-rebuild p f r b y small e = rebuilt-column p f r b y e small
 
 module _ (p : Numbers) (f : ℕ) where
@@ -363,7 +363,7 @@ module _ (p : Numbers) (f : ℕ) (r : Recording) (x b : List ℕ) (e : answerNum
       (first-later (λ m. m formed-cut) q
       (first-later (λ m. m size) q (first-later (λ m. m cut-below) q (accepted-later p cut-accepted q first))))))
 
-  passes : (y : List ℕ) → length y ≡ p .a * p .s → Rebuilt p f r bundle y
+  passes : (y : List ℕ) → length y ≡ p .a * p .s → NotRefused p f r bundle y
   unfolding answerNumber
   passes y size = go (rebuildOf p f r bundle y .0) refl
     where

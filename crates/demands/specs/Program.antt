@@ -1,6 +1,9 @@
 -- The small program is an entry point too: 'Any bytes, any numbers, any time: every entry point answers'. What it
 -- writes, by the table of a rebuild.
 --
+-- wanted, node, recording, bundle : what the input says is wanted, and the bundle that follows
+-- lent input          : the column that the program lends to the rebuild
+-- table input         : the table of that rebuild
 -- ProgramWrites input : the column where the rebuild is not refused, otherwise the line of the first refusal, never of 5
 -- Demand1Program      : so it is for all inputs
 -- Shown in proofs/Program.antt: demand-1-program.
@@ -15,7 +18,7 @@ use Rattle.document.specs.declared.Refusal.the-variants.{BufferLength}
 use Rattle.document.specs.Rebuild.{rebuildOf}
 use Rattle.document.specs.Program.{programHead, wantedNumbers, wantedNode, wantedRecording, lineOf, programOf}
 use Rattle.demands.specs.Refusals.{Sentence, FirstOf, rebuildSentences}
-use Rattle.demands.specs.Rebuild.{Rebuilt}
+use Rattle.demands.specs.Rebuild.{NotRefused}
 
 module _ (input : List ℕ) where
   abbrev pub wanted : Numbers
@@ -40,7 +43,7 @@ module _ (input : List ℕ) where
 
   pub record ProgramWrites : Type 1 where
     -- 'It writes the column's bytes'
-    pub column : Rebuilt wanted node recording bundle lent
+    pub column : NotRefused wanted node recording bundle lent
         → programOf input ≡ rebuildOf wanted node recording bundle lent .1
     -- 'or one line .. with the number and the strip's index'
     pub line : (q : Refusal) → FirstOf table q → programOf input ≡ lineOf q

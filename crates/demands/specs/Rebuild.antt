@@ -8,10 +8,11 @@
 -- columnIn p x j        : the column of node j in the array x
 -- CutFrom p f x r b     : b is a bundle cut from the stored array x
 -- WrittenBundle p f r x b : what cutting a bundle from x, written into b, leaves and answers
--- Rebuilt p f r b y     : a rebuild of node f from the bundle b, into y, is not refused
+-- NotRefused p f r b y     : a rebuild of node f from the bundle b, into y, is not refused
 -- RebuiltColumn p f r b y : some encoded array has the strips of b, and the rebuilt column is that of each such array
 --
--- The statements, shown in proofs/Demand3.antt under the name beside each:
+-- The statements, shown in proofs/Demand3.antt under the name beside each (the first two over a walk w: FitsOver p f w,
+-- OneColumnOver p f w):
 -- Fits                  : any bytes at the planned places stand in some encoded array              fits
 -- OneColumn             : encoded arrays alike at the planned places have the same lost column     one-column
 -- Demand3Write          : writing a bundle that is not refused                                     demand-3-write
@@ -125,42 +126,35 @@ pub record CutFrom (p : Numbers) (f : ℕ) (x : List ℕ) (r : Recording) (b : L
 
 -- ---- the rebuild
 -- 'The rebuilt column is the AS bytes that a rebuild not refused leaves in the buffer lent for writing.'
-abbrev pub Rebuilt : Numbers → ℕ → Recording → List ℕ → List ℕ → Type 0
-Rebuilt p f r b y = answerNumber (rebuildOf p f r b y .0) ≡ 0
+abbrev pub NotRefused : Numbers → ℕ → Recording → List ℕ → List ℕ → Type 0
+NotRefused p f r b y = answerNumber (rebuildOf p f r b y .0) ≡ 0
 
-module _ (p : Numbers) (f : ℕ) (r : Recording) (b y : List ℕ) where
-  abbrev profile : Profile
-  profile = profileOf p
-
-  abbrev plan : List Place
-  plan = planned profile (record { 0 = f })
-
-  pub record RebuiltColumn : Type 0 where
-    -- 'On success the answer is 0, with .. 0 otherwise.'
-    pub value : answerValue (rebuildOf p f r b y .0) ≡ 0
-    -- 'some encoded array has them'
-    pub some : (x : List ℕ) × EncodedArray profile x × HasStrips profile plan x (stripIn profile b)
-    -- 'and the rebuilt column is the one every such array has on that drive'
-    pub column : (x : List ℕ) → EncodedArray profile x → HasStrips profile plan x (stripIn profile b)
-        → rebuildOf p f r b y .1 ≡ columnIn profile x f
-
-abbrev pub Demand3Rebuild : Type 0
-Demand3Rebuild =
-    (p : Numbers) (f : ℕ) (r : Recording) (b y : List ℕ) → Bytes b → Rebuilt p f r b y → RebuiltColumn p f r b y
-
--- ---- two rebuilds, and rebuilds from what was cut
 module _ (p : Numbers) (f : ℕ) where
+  -- the wanted profile, and the planned places
   abbrev wanted : Profile
   wanted = profileOf p
 
-  abbrev planOf : List Place
-  planOf = planned wanted (record { 0 = f })
+  abbrev plan : List Place
+  plan = planned wanted (record { 0 = f })
 
+  pub record RebuiltColumn (r : Recording) (b y : List ℕ) : Type 0 where
+    -- 'On success the answer is 0, with .. 0 otherwise.'
+    pub value : answerValue (rebuildOf p f r b y .0) ≡ 0
+    -- 'some encoded array has them'
+    pub some : (x : List ℕ) × EncodedArray wanted x × HasStrips wanted plan x (stripIn wanted b)
+    -- 'and the rebuilt column is the one every such array has on that drive'
+    pub column : (x : List ℕ) → EncodedArray wanted x → HasStrips wanted plan x (stripIn wanted b)
+        → rebuildOf p f r b y .1 ≡ columnIn wanted x f
+
+  abbrev pub Demand3Rebuild : Type 0
+  Demand3Rebuild = (r : Recording) (b y : List ℕ) → Bytes b → NotRefused p f r b y → RebuiltColumn r b y
+
+  -- ---- two rebuilds, and rebuilds from what was cut
   -- 'No byte elsewhere, old or new, changes the rebuild.'
   abbrev pub SameStrips : Type 0
   SameStrips =
-      (r u : Recording) (b c y z : List ℕ) → Rebuilt p f r b y → Rebuilt p f u c z
-      → ((i : ℕ) → i < length planOf → stripIn wanted b i ≡ stripIn wanted c i)
+      (r u : Recording) (b c y z : List ℕ) → NotRefused p f r b y → NotRefused p f u c z
+      → ((i : ℕ) → i < length plan → stripIn wanted b i ≡ stripIn wanted c i)
       → rebuildOf p f r b y .1 ≡ rebuildOf p f u c z .1
 
   -- 'Take any two stored arrays alike at the planned places, whatever they hold elsewhere: rebuilds from bundles cut
@@ -168,15 +162,15 @@ module _ (p : Numbers) (f : ℕ) where
   -- for writing held.' Bundles cut for another profile or node than the wanted ones get 6 or 7.
   abbrev pub SameColumn : Type 0
   SameColumn =
-      (x y : List ℕ) → AlikeAt wanted planOf x y
+      (x y : List ℕ) → AlikeAt wanted plan x y
       → (r u : Recording) (b c : List ℕ) → CutFrom p f x r b → CutFrom p f y u c
-      → (v w : Recording) (d e : List ℕ) → Rebuilt p f v b d → Rebuilt p f w c e
+      → (v w : Recording) (d e : List ℕ) → NotRefused p f v b d → NotRefused p f w c e
       → rebuildOf p f v b d .1 ≡ rebuildOf p f w c e .1
 
   -- For one recording, such arrays give one bundle: no byte elsewhere turns a rebuild into a refusal.
   abbrev pub SameBundle : Type 0
   SameBundle =
-      (x y : List ℕ) → AlikeAt wanted planOf x y → (r : Recording) (b c : List ℕ) → CutFrom p f x r b
+      (x y : List ℕ) → AlikeAt wanted plan x y → (r : Recording) (b c : List ℕ) → CutFrom p f x r b
       → CutFrom p f y r c → b ≡ c
 
   -- 'Any two rebuilds given equal bundles, the same wanted numbers and buffers of equal length give the same answer,
@@ -188,16 +182,16 @@ module _ (p : Numbers) (f : ℕ) where
   -- A bundle cut for the wanted numbers from any stored array is not refused.
   abbrev pub CutPasses : Type 0
   CutPasses =
-      (x : List ℕ) (r : Recording) (b y : List ℕ) → CutFrom p f x r b → length y ≡ p .a * p .s → Rebuilt p f r b y
+      (x : List ℕ) (r : Recording) (b y : List ℕ) → CutFrom p f x r b → length y ≡ p .a * p .s → NotRefused p f r b y
 
   -- Cut from any stored array: the column is that of every encoded array alike at the planned places.
   abbrev pub CutColumn : Type 0
   CutColumn =
-      (x : List ℕ) (r u : Recording) (b y : List ℕ) → CutFrom p f x r b → Rebuilt p f u b y
-      → (z : List ℕ) → EncodedArray wanted z → AlikeAt wanted planOf x z → rebuildOf p f u b y .1 ≡ columnIn wanted z f
+      (x : List ℕ) (r u : Recording) (b y : List ℕ) → CutFrom p f x r b → NotRefused p f u b y
+      → (z : List ℕ) → EncodedArray wanted z → AlikeAt wanted plan x z → rebuildOf p f u b y .1 ≡ columnIn wanted z f
 
   -- Cut from an encoded array, it gives the lost column back.
   abbrev pub CutRebuilds : Type 0
   CutRebuilds =
-      (x : List ℕ) (r u : Recording) (b y : List ℕ) → CutFrom p f x r b → EncodedArray wanted x → Rebuilt p f u b y
+      (x : List ℕ) (r u : Recording) (b y : List ℕ) → CutFrom p f x r b → EncodedArray wanted x → NotRefused p f u b y
       → rebuildOf p f u b y .1 ≡ columnIn wanted x f

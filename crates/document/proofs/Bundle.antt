@@ -1,10 +1,12 @@
--- The lengths of a bundle and of its parts, and the fields 03 one after the other.
+-- The lengths of a bundle and of its parts, written and read, and the fields 03 one after the other.
 use mathlib.Core.Path.{_≡_, refl, sym, ap, ap₂, _∙_}
+use mathlib.Core.Bool.{Bool, true, false, _&&_}
 use mathlib.Core.List.{List, [], _∷_, _++_, append-nil, append-assoc}
 use Prim.Native.Nat.{ℕ, _+_, _*_, _<_}
 use native.Mathlib.Nat.{add-zero, zero-mul, suc-mul}
 use native.Mathlib.Omega.{arith}
 use lib.ListN.{length, length-append}
+use borrow.Author.Tests.{eqb-true}
 use Rattle.lists.specs.Listed.{listed}
 use Rattle.lists.specs.Each.{Each, none, also}
 use Rattle.lists.proofs.Listed.{listed-add}
@@ -22,16 +24,17 @@ use Rattle.document.specs.Bundle.{
   recordingBytes,
   recordingLength,
   profileContent,
-  profileLength,
+  profileContentLength,
   lostContent,
-  lostLength,
+  lostContentLength,
   stripContent,
-  stripLength,
+  stripContentLength,
   stripFieldLength,
   bundleLength,
   stripOf,
   stripFields,
   bundleOf,
+  formed,
 }
 use Rattle.document.proofs.Bounds.{strip-within}
 use Rattle.document.proofs.Chosen.{plan-within}
@@ -40,11 +43,11 @@ pub recording-length : (r : Recording) → length (recordingBytes r) ≡ recordi
 unfolding recordingBytes fourBytes
 recording-length r = refl
 
-pub profile-length : (p : Profile) → length (profileContent p) ≡ profileLength
+pub profile-length : (p : Profile) → length (profileContent p) ≡ profileContentLength
 unfolding profileContent twoBytes
 profile-length p = refl
 
-pub lost-length : (f : Node) (r : Recording) → length (lostContent f r) ≡ lostLength
+pub lost-length : (f : Node) (r : Recording) → length (lostContent f r) ≡ lostContentLength
 unfolding lostContent
 lost-length f r = omega (arith, recording-length r)
 
@@ -77,7 +80,7 @@ module _ (p : Profile) (r : Recording) (x : List ℕ) where
     unfolding stripOf start
     strip-length q w = slice-length x (start p q) S (omega (arith, strip-within p acc q w))
 
-    pub content-length : (q : Place) → Within p q → length (stripContent q r (stripOf p x q)) ≡ stripLength S
+    pub content-length : (q : Place) → Within p q → length (stripContent q r (stripOf p x q)) ≡ stripContentLength S
     unfolding stripContent
     content-length q w =
         let rest : length (recordingBytes r ++ stripOf p x q) ≡ recordingLength + S =
@@ -114,3 +117,12 @@ module _ (p : Profile) (r : Recording) (x : List ℕ) where
           lost-length f r,
           fields-length (plan-within p acc f h),
         ))
+
+-- a bundle in due form has its length
+pub formed-length : (p : Profile) (f : Node) (b : List ℕ) → formed p f b ≡ true → length b ≡ bundleLength p f
+unfolding formed
+formed-length p f b e = eqb-true _ _ (first _ _ e)
+  where
+    first : (c d : Bool) → c && d ≡ true → c ≡ true
+    first true d h = refl
+    first false d h = h

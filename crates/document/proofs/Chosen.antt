@@ -2,7 +2,7 @@
 -- outside the lost node's group, and the plan lists just the places that the algebra reads, each at one position.
 use mathlib.Core.Path.{_≡_, refl, sym, ap, subst, _∙_}
 use mathlib.Core.Logic.{_≢_, _⊎_, inl, inr}
-use mathlib.Core.Bool.{true, cond}
+use mathlib.Core.Bool.{cond}
 use mathlib.Core.List.{List, _++_, map}
 use Prim.Native.Nat.{ℕ, zero, suc, _+_, _-_, _*_, _/_, _%_, _≤_, _<_}
 use native.Mathlib.Nat.{mul-sub, mod-lt, div-add-mod', not-suc-le-zero, le-of-suc-le-suc}
@@ -45,18 +45,7 @@ use Rattle.document.specs.declared.Node.{Node}
 use Rattle.document.specs.declared.Place.{Place}
 use Rattle.document.specs.Profile.{Accepted}
 use Rattle.document.specs.Places.{place, partnerOf, samePlace, Within}
-use Rattle.document.specs.Plan.{
-  isOwn,
-  rowAt,
-  pairsAt,
-  Walk,
-  walkOf,
-  stepTwo,
-  stepThree,
-  chosenOver,
-  planOver,
-  planned,
-}
+use Rattle.document.specs.Plan.{rowAt, pairsAt, Walk, walkOf, stepTwo, stepThree, chosenOver, planOver, planned}
 use Rattle.document.specs.Rebuild.{positionOf}
 use Rattle.document.proofs.Decides.{decides-false, decides-place}
 use Rattle.document.proofs.Bounds.{A>0, group-within, partner-within}
@@ -217,20 +206,19 @@ module _ (p : Profile) (acc : Accepted p) (f : Node) (h : f .0 < p .n) (w : Walk
   abbrev later-places : List Place
   later-places = map (rowAt A f) (stepTwo k w) ++ pairsAt A f (stepThree k w)
 
+  -- node i of the lost group is one of step 1
+  pub own-found : (i : ℕ) → i < A → i ≢ c
+      → (m : ℕ) × (m < length (w .own)) × (getD (w .own) m 0 ≡ partnerNode A i (f .0))
+  own-found i l other =
+      sound .own-all (partnerNode A i (f .0)) (omega (arith, group-within p acc (f .0) h))
+      (own-is A f (partnerNode A i (f .0)) .1 (digits-div g l, λ e. other (sym (digits-mod g l) ∙ e)))
+
   own-has : (i : ℕ) → i < A → i ≢ c → Has (rowAt A f (partnerNode A i (f .0)))
   unfolding planOver
   own-has i l other =
+      let found = own-found i l other in
       some-left later-places
       (some-image (rowAt A f) (λ j e. ap (rowAt A f) e) (some-from 0 (w .own) (found .0) (found .1) (found .2)))
-    where
-      j : ℕ
-      j = partnerNode A i (f .0)
-
-      is-own : isOwn A f j ≡ true
-      is-own = own-is A (A>0 p acc) k f j .1 (digits-div g l, λ e. other (sym (digits-mod g l) ∙ e))
-
-      found : (m : ℕ) × (m < length (w .own)) × (getD (w .own) m 0 ≡ j)
-      found = sound .own-all j (omega (arith, group-within p acc (f .0) h)) is-own
 
   -- the step that gave the chosen node q
   abbrev Given : ℕ → Type 0

@@ -37,7 +37,7 @@ use Rattle.document.specs.Encoding.{
   Stored,
   encoded,
 }
-use Rattle.document.specs.Bundle.{stripFieldLength, stripOf, stripField, stripIn}
+use Rattle.document.specs.Bundle.{stripFieldLength, stripOf, stripFieldStart, stripIn}
 use Rattle.document.specs.Rebuild.{firstStrip}
 use Rattle.document.proofs.Bytes.{number-byte, number-zero, number-one, points-distinct}
 use Rattle.document.proofs.Bounds.{room, A>0, n-is, strip-within}
@@ -250,5 +250,5 @@ module _ (p : Profile) where
   -- strip i of a bundle, where a rebuild reads it
   pub given-strip : (b : List ℕ) (i o : ℕ) → o < S
       → getD (stripIn p b i) o 0 ≡ getD b (firstStrip + i * stripFieldLength S + o) 0
-  unfolding stripIn stripField
+  unfolding stripIn stripFieldStart
   given-strip b i o l = slice-at b _ S o l ∙ ap (λ (e : ℕ). getD b e 0) (omega arith)

@@ -23,16 +23,16 @@ use Rattle.document.specs.Bundle.{
   recordingBytes,
   recordingLength,
   profileContent,
-  profileLength,
+  profileContentLength,
   lostContent,
-  lostLength,
+  lostContentLength,
   stripContent,
-  stripLength,
+  stripContentLength,
   stripFieldLength,
   stripOf,
   stripFields,
   bundleOf,
-  stripField,
+  stripFieldStart,
   placeIn,
   recordingIn,
   stripIn,
@@ -85,19 +85,19 @@ module _ (p : Profile) (acc : Accepted p) (r : Recording) (x : List ℕ) (size :
     abbrev fields : List ℕ
     fields = stripFields p r x (planned p f)
 
-    first-length : length first ≡ openingLength + profileLength
+    first-length : length first ≡ openingLength + profileContentLength
     first-length = omega (arith, field-length 1 (profileContent p), profile-length p)
 
-    second-length : length second ≡ openingLength + lostLength
+    second-length : length second ≡ openingLength + lostContentLength
     second-length = omega (arith, field-length 2 (lostContent f r), lost-length f r)
 
-    pub cut-first : (slice bundle 0 openingLength ≡ opening 1 profileLength)
-        × (slice bundle openingLength profileLength ≡ profileContent p)
+    pub cut-first : (slice bundle 0 openingLength ≡ opening 1 profileContentLength)
+        × (slice bundle openingLength profileContentLength ≡ profileContent p)
     unfolding bundleOf fieldOf opening twoBytes profileContent slice
     cut-first = (refl, refl)
 
-    pub cut-second : (slice bundle (openingLength + profileLength) openingLength ≡ opening 2 lostLength)
-        × (slice bundle (openingLength + profileLength + openingLength) lostLength ≡ lostContent f r)
+    pub cut-second : (slice bundle (openingLength + profileContentLength) openingLength ≡ opening 2 lostContentLength)
+        × (slice bundle (openingLength + profileContentLength + openingLength) lostContentLength ≡ lostContent f r)
     unfolding bundleOf fieldOf opening twoBytes profileContent lostContent recordingBytes fourBytes slice
     cut-second = (refl, refl)
 
@@ -106,18 +106,18 @@ module _ (p : Profile) (acc : Accepted p) (r : Recording) (x : List ℕ) (size :
       here = plannedAt p f i
 
       -- a part of field 03 of strip i
-      part : (o m : ℕ) → o + m ≤ stripFieldLength (p .s) → slice bundle (stripField p i + o) m ≡ slice (field here) o m
-      unfolding stripField bundleOf plannedAt
+      part : (o m : ℕ) → o + m ≤ stripFieldLength (p .s) → slice bundle (stripFieldStart p i + o) m ≡ slice (field here) o m
+      unfolding stripFieldStart bundleOf plannedAt
       part o m l =
           ap (λ (e : ℕ). slice bundle e m) (omega (arith, first-length, second-length))
           ∙ slice-right first (second ++ fields) (length second + (i * stripFieldLength (p .s) + o)) m
           ∙ slice-right second fields (i * stripFieldLength (p .s) + o) m
           ∙ fields-at within i o m b l
 
-      entry : (o : ℕ) → o < stripFieldLength (p .s) → getD bundle (stripField p i + o) 0 ≡ getD (field here) o 0
+      entry : (o : ℕ) → o < stripFieldLength (p .s) → getD bundle (stripFieldStart p i + o) 0 ≡ getD (field here) o 0
       entry o l =
-          ap (λ (e : ℕ). getD bundle e 0) (sym (add-zero (stripField p i + o)))
-          ∙ sym (slice-at bundle (stripField p i + o) 1 0 (omega arith))
+          ap (λ (e : ℕ). getD bundle e 0) (sym (add-zero (stripFieldStart p i + o)))
+          ∙ sym (slice-at bundle (stripFieldStart p i + o) 1 0 (omega arith))
           ∙ ap (λ (v : List ℕ). getD v 0 0) (part o 1 (omega arith))
           ∙ slice-at (field here) o 1 0 (omega arith)
           ∙ ap (λ (e : ℕ). getD (field here) e 0) (add-zero o)
@@ -126,10 +126,10 @@ module _ (p : Profile) (acc : Accepted p) (r : Recording) (x : List ℕ) (size :
       unfolding plannedAt
       here-within = each-at (place 0 0) within i b
 
-      pub cut-opening : slice bundle (stripField p i) openingLength ≡ opening 3 (stripLength (p .s))
+      pub cut-opening : slice bundle (stripFieldStart p i) openingLength ≡ opening 3 (stripContentLength (p .s))
       unfolding fieldOf opening twoBytes slice
       cut-opening =
-          ap (λ (e : ℕ). slice bundle e openingLength) (sym (add-zero (stripField p i)))
+          ap (λ (e : ℕ). slice bundle e openingLength) (sym (add-zero (stripFieldStart p i)))
           ∙ part 0 openingLength (omega arith)
           ∙ ap (λ (m : ℕ). opening 3 m) (content-length p r x acc size here here-within)
 
@@ -137,20 +137,20 @@ module _ (p : Profile) (acc : Accepted p) (r : Recording) (x : List ℕ) (size :
       unfolding placeIn fieldOf opening twoBytes stripContent
       cut-place =
           ap₂ place (entry openingLength (omega arith))
-          (ap (λ (e : ℕ). getD bundle e 0) (add-assoc (stripField p i) openingLength 1)
+          (ap (λ (e : ℕ). getD bundle e 0) (add-assoc (stripFieldStart p i) openingLength 1)
           ∙ entry (openingLength + 1) (omega arith))
 
       pub cut-recording : recordingIn p bundle i ≡ recordingBytes r
       unfolding recordingIn fieldOf opening twoBytes stripContent recordingBytes fourBytes slice
       cut-recording =
-          ap (λ (e : ℕ). slice bundle e recordingLength) (add-assoc (stripField p i) openingLength 2)
+          ap (λ (e : ℕ). slice bundle e recordingLength) (add-assoc (stripFieldStart p i) openingLength 2)
           ∙ part (openingLength + 2) recordingLength (omega arith)
 
       pub cut-strip : stripIn p bundle i ≡ stripOf p x here
       unfolding stripIn fieldOf opening twoBytes stripContent recordingBytes fourBytes slice plannedAt
       cut-strip =
           let o : ℕ = openingLength + 2 + recordingLength in
-          let there : stripField p i + openingLength + 2 + recordingLength ≡ stripField p i + o = omega arith in
+          let there : stripFieldStart p i + openingLength + 2 + recordingLength ≡ stripFieldStart p i + o = omega arith in
           ap (λ (e : ℕ). slice bundle e (p .s)) there
           ∙ part o (p .s) (omega arith)
           ∙ ap (λ (m : ℕ). take m (stripOf p x here)) (sym (strip-length p r x acc size here here-within))

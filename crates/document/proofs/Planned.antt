@@ -36,6 +36,21 @@ use Rattle.document.specs.Plan.{
 use Rattle.document.proofs.Decides.{decides-eq, decides-both, decides-not}
 use Rattle.document.proofs.Walks.{Sound}
 
+-- what the tests of the three steps say
+module _ (A : ℕ) (f : Node) (j : ℕ) where
+  pub own-is : Decides (isOwn A f j) ((j / A ≡ f .0 / A) × (j % A ≢ f .0 % A))
+  unfolding isOwn
+  own-is = decides-both _ _ (decides-eq (j / A) (f .0 / A)) (decides-not _ (decides-eq (j % A) (f .0 % A)))
+
+  diagonal-is : Decides (isDiagonal A f j) ((j / A ≢ f .0 / A) × (j % A ≡ f .0 % A))
+  unfolding isDiagonal
+  diagonal-is = decides-both _ _ (decides-not _ (decides-eq (j / A) (f .0 / A))) (decides-eq (j % A) (f .0 % A))
+
+  pub off-is : Decides (isOffDiagonal A f j) ((j / A ≢ f .0 / A) × (j % A ≢ f .0 % A))
+  unfolding isOffDiagonal
+  off-is =
+      decides-both _ _ (decides-not _ (decides-eq (j / A) (f .0 / A))) (decides-not _ (decides-eq (j % A) (f .0 % A)))
+
 module _ (A : ℕ) (A>0 : 0 < A) (k : ℕ) (f : Node) where
   -- f's group and local column
   abbrev g : ℕ
@@ -46,19 +61,6 @@ module _ (A : ℕ) (A>0 : 0 < A) (k : ℕ) (f : Node) where
 
   c<A : c < A
   c<A = mod-lt (f .0) A>0
-
-  -- what the tests of the three steps say
-  pub own-is : (j : ℕ) → Decides (isOwn A f j) ((j / A ≡ g) × (j % A ≢ c))
-  unfolding isOwn
-  own-is j = decides-both _ _ (decides-eq (j / A) g) (decides-not _ (decides-eq (j % A) c))
-
-  diagonal-is : (j : ℕ) → Decides (isDiagonal A f j) ((j / A ≢ g) × (j % A ≡ c))
-  unfolding isDiagonal
-  diagonal-is j = decides-both _ _ (decides-not _ (decides-eq (j / A) g)) (decides-eq (j % A) c)
-
-  off-is : (j : ℕ) → Decides (isOffDiagonal A f j) ((j / A ≢ g) × (j % A ≢ c))
-  unfolding isOffDiagonal
-  off-is j = decides-both _ _ (decides-not _ (decides-eq (j / A) g)) (decides-not _ (decides-eq (j % A) c))
 
   -- what holds of both places that each node stands for in step 3
   pub each-pairs : {R : ℕ → Type 0} {S : Place → Type 0}
@@ -99,13 +101,13 @@ module _ (A : ℕ) (A>0 : 0 < A) (k : ℕ) (f : Node) where
 
   module _ {n : ℕ} (w : Walk) (sound : Sound n A f w) where
     pub own-nodes : Each (λ j. (j / A ≡ g) × (j % A ≢ c)) (w .own)
-    own-nodes = each-map (λ j r. own-is j .0 (r .0)) (sound .own)
+    own-nodes = each-map (λ j r. own-is A f j .0 (r .0)) (sound .own)
 
     pub second-nodes : Each (λ j. (j / A ≢ g) × (j % A ≡ c)) (stepTwo k w)
-    second-nodes = each-take k (each-map (λ j r. diagonal-is j .0 (r .0)) (sound .diagonal))
+    second-nodes = each-take k (each-map (λ j r. diagonal-is A f j .0 (r .0)) (sound .diagonal))
 
     pub third-nodes : Each (λ j. (j / A ≢ g) × (j % A ≢ c)) (stepThree k w)
-    third-nodes = each-take (k - length (stepTwo k w)) (each-map (λ j r. off-is j .0 (r .0)) (sound .off-diagonal))
+    third-nodes = each-take (k - length (stepTwo k w)) (each-map (λ j r. off-is A f j .0 (r .0)) (sound .off-diagonal))
 
     -- steps 2 and 3 stay outside f's group
     outside : Each (λ q. q .node .0 / A ≢ g) (map (rowAt A f) (stepTwo k w) ++ pairsAt A f (stepThree k w))

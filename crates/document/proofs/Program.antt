@@ -1,18 +1,16 @@
 -- The small program: its output by the tests of a rebuild, and that it does not turn on what the lent column holds.
 use mathlib.Core.Path.{_≡_, refl, sym, ap, _∙_}
-use mathlib.Core.Bool.{Bool, true, false}
-use mathlib.Core.List.{List, [], _∷_}
+use mathlib.Core.List.{List}
 use Prim.Native.Nat.{ℕ, _*_, _≤_, min}
 use native.Mathlib.Omega.{arith}
 use lib.ListN.{length, drop, replicate, length-replicate}
 use Rattle.document.specs.declared.Numbers.{Numbers}
 use Rattle.document.specs.declared.Recording.{Recording}
-use Rattle.document.specs.declared.Refusal.{Refusal}
 use Rattle.document.specs.declared.Answer.{Answer}
 use Rattle.document.specs.declared.Answer.the-variants.{Done, Refused}
 use Rattle.document.specs.declared.Checked.{Checked}
 use Rattle.document.specs.declared.Checked.the-variants.{Passed, Rejected}
-use Rattle.document.specs.Refusals.{Test, tried}
+use Rattle.document.specs.Refusals.{tried}
 use Rattle.document.specs.Profile.{maxRows, maxStrip, profileOf, checkedOf}
 use Rattle.document.specs.Bundle.{stripFieldLength}
 use Rattle.document.specs.Rebuild.{rebuiltOf, rebuildTests, firstStrip, rebuildOf}
@@ -26,20 +24,8 @@ use Rattle.document.specs.Program.{
   programOf,
 }
 use Rattle.document.proofs.Accepts.{accepted, tried-rejected}
+use Rattle.document.proofs.Tried.{tried-map}
 use Rattle.document.proofs.Bounds.{column-bound}
-
--- what is done with an outcome is done with each of its cases
-tried-map : {X Y : Type 0} (g : X → Y) (tests : List Test) (refuse : Refusal → X) (x : X)
-    → g (tried tests refuse x) ≡ tried tests (λ r. g (refuse r)) (g x)
-unfolding tried
-tried-map g [] refuse x = refl
-tried-map g (test ∷ tests) refuse x = go (test .holds) (tried-map g tests refuse x)
-  where
-    go : (b : Bool) → g (tried tests refuse x) ≡ tried tests (λ r. g (refuse r)) (g x)
-        → g (tried (record { refusal = test .refusal; holds = b } ∷ tests) refuse x)
-        ≡ tried (record { refusal = test .refusal; holds = b } ∷ tests) (λ r. g (refuse r)) (g x)
-    go true rest = refl
-    go false rest = rest
 
 module _ (p : Numbers) (f : ℕ) (r : Recording) (b : List ℕ) where
   -- the column that a rebuild not refused leaves

@@ -82,3 +82,27 @@ module _ {ℓ} {X : Type ℓ} (refuse : Refusal → X) where
             absurd (let s : _≡_ {A = ℕ} 0 1 = cc in omega arith)
         go false h rest =
             tried-not refuse test tests z h ∙ rest (sym (tried-not Refused test tests (Done v) h) ∙ e)
+
+-- a call that is done tried its first test in vain
+pub first-failed : (test : Test) (tests : List Test) (v u : ℕ) → tried (test ∷ tests) Refused (Done v) ≡ Done u
+    → test .holds ≡ false
+unfolding tried
+first-failed test tests v u e = go (test .holds) e
+  where
+    go : (b : Bool) → tried (record { refusal = test .refusal; holds = b } ∷ tests) Refused (Done v) ≡ Done u
+        → b ≡ false
+    go true e = absurd (let z : _≡_ {A = ℕ} 1 0 = cc in omega arith)
+    go false e = refl
+
+-- a function of what a call that tries its tests in order gives
+pub tried-map : {X Y : Type 0} (g : X → Y) (tests : List Test) (refuse : Refusal → X) (x : X)
+    → g (tried tests refuse x) ≡ tried tests (λ r. g (refuse r)) (g x)
+unfolding tried
+tried-map g [] refuse x = refl
+tried-map g (test ∷ tests) refuse x = go (test .holds) (tried-map g tests refuse x)
+  where
+    go : (b : Bool) → g (tried tests refuse x) ≡ tried tests (λ r. g (refuse r)) (g x)
+        → g (tried (record { refusal = test .refusal; holds = b } ∷ tests) refuse x)
+        ≡ tried (record { refusal = test .refusal; holds = b } ∷ tests) (λ r. g (refuse r)) (g x)
+    go true h = refl
+    go false h = h

@@ -6,7 +6,7 @@
 -- profileContent p       : the content of field 01
 -- lostContent f r        : the content of field 02
 -- stripContent q r strip : the content of field 03 for the place q
--- profileLength, lostLength, stripLength S : how long these contents are
+-- profileContentLength, lostContentLength, stripContentLength S : how long these contents are
 -- headLength             : the length of fields 01 and 02 together, tags and lengths counted in
 -- stripFieldLength S     : the length of a field 03
 -- bundleLength p f       : the length of a bundle
@@ -17,10 +17,11 @@
 -- writeTests p f x b     : the refusals of writing a bundle, in their order
 -- writeOf p f r x b      : cutting a bundle from x, written into b: the answer, and what b holds then
 --
--- stripField p i         : where the field 03 of strip i starts, from 0
+-- stripFieldStart p i         : where the field 03 of strip i starts, from 0
 -- placeIn p b i          : the place that strip i of the bundle b has
 -- recordingIn p b i      : what its recording is identified by
 -- stripIn p b i          : the strip itself
+-- openedAt p b i         : the test of the tag and the length of strip i's field
 -- formed p f b           : the test of the total length, the tags and the field lengths
 -- headed p f r b         : the test of the contents of fields 01 and 02
 -- placed p f b i         : the test of the place of strip i
@@ -66,29 +67,29 @@ recordingBytes r = fourBytes (r .scenario)
 unfoldable pub profileContent : Profile → List ℕ
 profileContent p = p .n ∷ p .k ∷ p .a ∷ p .t ∷ twoBytes (p .s)
 
-abbrev pub profileLength : ℕ
-profileLength = 6
+abbrev pub profileContentLength : ℕ
+profileContentLength = 6
 
 -- '02, length 5: lost node, scenario number in four bytes.'
 unfoldable pub lostContent : Node → Recording → List ℕ
 lostContent f r = f .0 ∷ recordingBytes r
 
-abbrev pub lostLength : ℕ
-lostLength = 1 + recordingLength
+abbrev pub lostContentLength : ℕ
+lostContentLength = 1 + recordingLength
 
 -- '03, length 6+S, once a planned place in plan order: node, row, scenario number, strip.'
 unfoldable pub stripContent : Place → Recording → List ℕ → List ℕ
 stripContent q r strip = q .node .0 ∷ q .row .0 ∷ (recordingBytes r ++ strip)
 
-abbrev pub stripLength : ℕ → ℕ
-stripLength S = 2 + recordingLength + S
+abbrev pub stripContentLength : ℕ → ℕ
+stripContentLength S = 2 + recordingLength + S
 
 -- 'Length: 17 + P(9+S), P the number of places.'
 abbrev pub headLength : ℕ
-headLength = (openingLength + profileLength) + (openingLength + lostLength)
+headLength = (openingLength + profileContentLength) + (openingLength + lostContentLength)
 
 abbrev pub stripFieldLength : ℕ → ℕ
-stripFieldLength S = openingLength + stripLength S
+stripFieldLength S = openingLength + stripContentLength S
 
 abbrev pub bundleLength : Profile → Node → ℕ
 bundleLength p f = headLength + length (planned p f) * stripFieldLength (p .s)
@@ -129,12 +130,12 @@ writeOf p f r x b =
 
 -- ---- what a reader finds where the fields of a bundle stand
 module _ (p : Profile) where
-  unfoldable pub stripField : ℕ → ℕ
-  stripField i = headLength + i * stripFieldLength (p .s)
+  unfoldable pub stripFieldStart : ℕ → ℕ
+  stripFieldStart i = headLength + i * stripFieldLength (p .s)
 
   module _ (b : List ℕ) (i : ℕ) where
     abbrev content : ℕ
-    content = stripField i + openingLength
+    content = stripFieldStart i + openingLength
 
     unfoldable pub placeIn : Place
     placeIn = place (getD b content 0) (getD b (content + 1) 0)
@@ -145,20 +146,22 @@ module _ (p : Profile) where
     unfoldable pub stripIn : List ℕ
     stripIn = slice b (content + 2 + recordingLength) (p .s)
 
+unfoldable pub openedAt : Profile → List ℕ → ℕ → Bool
+openedAt p b i = same (slice b (stripFieldStart p i) openingLength) (opening 3 (stripContentLength (p .s)))
+
 -- 6: 'bundle's total length, tags or field lengths differ from those of the wanted profile and node'.
 unfoldable pub formed : Profile → Node → List ℕ → Bool
 formed p f b =
     eqb (length b) (bundleLength p f)
-    && (same (slice b 0 openingLength) (opening 1 profileLength)
-    && (same (slice b (openingLength + profileLength) openingLength) (opening 2 lostLength)
-    && all (length (planned p f))
-    (λ i. same (slice b (stripField p i) openingLength) (opening 3 (stripLength (p .s))))))
+    && (same (slice b 0 openingLength) (opening 1 profileContentLength)
+    && (same (slice b (openingLength + profileContentLength) openingLength) (opening 2 lostContentLength)
+    && all (length (planned p f)) (openedAt p b)))
 
 -- 7: 'content of field 01 or 02 differs from what is wanted'.
 unfoldable pub headed : Profile → Node → Recording → List ℕ → Bool
 headed p f r b =
-    same (slice b openingLength profileLength) (profileContent p)
-    && same (slice b (openingLength + profileLength + openingLength) lostLength) (lostContent f r)
+    same (slice b openingLength profileContentLength) (profileContent p)
+    && same (slice b (openingLength + profileContentLength + openingLength) lostContentLength) (lostContent f r)
 
 -- 8: 'some strip's place differs from the plan's'.
 unfoldable pub placed : Profile → Node → List ℕ → ℕ → Bool

@@ -5,6 +5,9 @@ ghost use lib.ListN.{length};
 ghost use Rattle.lists.specs.Put.{slice, same, Wrote};
 ghost use Rattle.fields.specs.Fields.{twoBytes, fourBytes, opening, openingLength};
 
+// How many bytes a field's tag and length take.
+pub const OPENING: usize = 3;
+
 // The number in two bytes, high byte first; above 65535, its lowest sixteen bits count.
 pub fn two_bytes(v: usize) -> [u8; 2]
     ensures { λ r. ⌜ r ≡ twoBytes v ⌝ }
@@ -37,7 +40,7 @@ pub fn put_bytes(out: &mut [u8], at: usize, src: &[u8]) -> usize
     at + i
 }
 
-// Writes the tag and the length that a field opens with.
+// Writes the tag and the length that a field opens with, and returns the position after them.
 pub fn put_opening(out: &mut [u8], at: usize, tag: u8, len: usize) -> usize
     requires { ⌜ at + openingLength ≤ length (now out) ⌝ }
     ensures { λ r. ⌜ Wrote (now (out .entry)) at (opening tag len) r (now (out .exit)) ⌝ }

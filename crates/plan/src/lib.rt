@@ -26,6 +26,12 @@ pub enum Step {
     OffDiagonal,
 }
 
+// No plan of an accepted profile has more places: (24,20,4) has as many.
+pub const MAX_PLACES: usize = 38;
+
+// Room for the nodes of three steps.
+pub const MAX_LISTED: usize = 3 * Profile::MAX_NODES;
+
 // Whether the step goes over node j.
 pub fn in_step(step: Step, p: Profile, f: Node, j: usize) -> bool
     requires { ⌜ Accepted p ⌝ }
@@ -128,7 +134,7 @@ pub fn put_plan(out: &mut [u8], p: Profile, f: Node) -> usize
     requires { ⌜ Accepted p × (f .0 < p .n) × (length (planBytes (planned p f)) ≤ length (now out)) ⌝ }
     ensures { λ r. ⌜ Wrote (now (out .entry)) 0 (planBytes (planned p f)) r (now (out .exit)) ⌝ }
 {
-    let mut nodes = [0u8; 72];
+    let mut nodes = [0u8; MAX_LISTED];
     let end = list_nodes(&mut nodes, p, f);
     put_nodes(out, p, f, &nodes[..end])
 }

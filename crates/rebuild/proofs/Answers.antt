@@ -1,11 +1,10 @@
 -- The answer of a rebuild, by what is found on the way.
-use mathlib.Core.Path.{_≡_, refl, sym, ap, _∙_}
-use mathlib.Core.Bool.{Bool, true, false, _&&_}
-use mathlib.Core.List.{List, _∷_}
+use mathlib.Core.Path.{_≡_, sym, ap, _∙_}
+use mathlib.Core.List.{List}
 use Prim.Native.Nat.{ℕ, _*_, _≤_, _<_}
 use native.Mathlib.Omega.{arith}
 use lib.ListN.{length}
-use borrow.Author.Tests.{lt-ltb, le-ltb, eq-eqb, ne-eqb, eqb-true, not-false}
+use borrow.Author.Tests.{lt-ltb, le-ltb, eq-eqb, ne-eqb, not-false}
 use Rattle.document.specs.declared.Numbers.{Numbers}
 use Rattle.document.specs.declared.Profile.{Profile}
 use Rattle.document.specs.declared.Node.{Node}
@@ -15,30 +14,17 @@ use Rattle.document.specs.declared.Refusal.the-variants.{OutOfRange, BufferLeng
 use Rattle.document.specs.declared.Answer.{Answer}
 use Rattle.document.specs.declared.Answer.the-variants.{Done, Refused}
 use Rattle.document.specs.declared.Checked.the-variants.{Passed, Rejected}
-use Rattle.document.specs.Refusals.{Test, tried}
+use Rattle.document.specs.Refusals.{tried}
 use Rattle.document.specs.Profile.{profileOf, checkedOf}
 use Rattle.document.specs.Plan.{planned}
-use Rattle.document.specs.Bundle.{stripFieldLength, bundleLength, formed, bundleTests}
+use Rattle.document.specs.Bundle.{stripFieldLength, bundleLength, bundleTests}
 use Rattle.document.specs.Rebuild.{rebuiltOf, firstStrip, rebuildTests, rebuildOf}
 use Rattle.document.proofs.Accepts.{accepted, tried-rejected, tried-accepted}
 use Rattle.document.proofs.Bounds.{room}
-use Rattle.document.proofs.Tried.{tried-refused, tried-passed}
+use Rattle.document.proofs.Tried.{tried-refused, tried-passed, first-failed}
+use Rattle.document.proofs.Bundle.{formed-length}
 use Rattle.rebuild.specs.Folded.{StripsFit}
 use Rattle.rebuild.specs.Checked.{fromBundle}
-
--- a call that is done tried its first test in vain
-first-failed : (test : Test) (tests : List Test) (v u : ℕ) → tried (test ∷ tests) Refused (Done v) ≡ Done u
-    → test .holds ≡ false
-unfolding tried
-first-failed test tests v u e = go (test .holds) e
-  where
-    go : (b : Bool) → tried (record { refusal = test .refusal; holds = b } ∷ tests) Refused (Done v) ≡ Done u → b ≡ false
-    go true e = absurd (let z : _≡_ {A = ℕ} 1 0 = cc in omega arith)
-    go false e = refl
-
-both-first : (a b : Bool) → a && b ≡ true → a ≡ true
-both-first true b e = refl
-both-first false b e = e
 
 -- ---- from the bundle on
 module _ (p : Profile) (f : Node) (r : Recording) (b : List ℕ) {answer : Answer}
@@ -57,9 +43,8 @@ module _ (p : Profile) (f : Node) (r : Recording) (b : List ℕ) {answer : Answe
 
     -- a bundle of the right length has the strips of the plan
     whole : length b ≡ bundleLength p f
-    unfolding bundleTests formed
-    whole =
-        eqb-true _ _ (both-first _ _ (not-false _ (first-failed _ _ 0 v (sym checked ∙ e))))
+    unfolding bundleTests
+    whole = formed-length p f b (not-false _ (first-failed _ _ 0 v (sym checked ∙ e)))
 
     pub strips-fit : StripsFit p f b firstStrip (stripFieldLength (p .s))
     strips-fit = record {
@@ -87,8 +72,8 @@ module _ (p : Numbers) (lost : ℕ) (r : Recording) (b y : List ℕ) where
       column-refused n =
           sym (tried-accepted p _ _ _ q e ∙ simp (lt-ltb _ _ (rw same at known), ne-eqb _ _ (rw same at n)))
 
-      pub left : length y ≡ q .a * q .s → fromBundle q (record { 0 = lost }) r b y ≡ rebuildOf p lost r b y
+      pub from-bundle : length y ≡ q .a * q .s → fromBundle q (record { 0 = lost }) r b y ≡ rebuildOf p lost r b y
       unfolding rebuildOf rebuildTests tried fromBundle
-      left size =
+      from-bundle size =
           ap (λ (s : Profile). fromBundle s (record { 0 = lost }) r b y) same
           ∙ sym (tried-accepted p _ _ _ q e ∙ simp (lt-ltb _ _ (rw same at known), eq-eqb _ _ (rw same at size)))

@@ -17,7 +17,7 @@ use Rattle.document.specs.declared.Profile.{Profile}
 use Rattle.document.specs.declared.Node.{Node}
 use Rattle.document.specs.Bytes.{bytes, Byte, byte, number}
 use Rattle.document.proofs.Bytes.{number-mul, number-inv}
-use Rattle.rebuild.specs.Rows.{memberAt, pairAt, pairsOf, scaleAt, coefficientsOf}
+use Rattle.rebuild.specs.Rows.{memberAt, determinantAt, determinantsOf, scaleAt, coefficientsOf}
 
 module _ (p : Profile) (f : Node) (nodes : List ℕ) (i : ℕ) where
   open Profile p using (k, a as A)
@@ -26,18 +26,18 @@ module _ (p : Profile) (f : Node) (nodes : List ℕ) (i : ℕ) where
   abbrev share : ℕ → ℕ → Byte
   share m q =
       bytes .mul (weight bytes m (points nodes) q (byte (memberAt p f i)))
-      (bytes .inv (pairAt p f (getD nodes q 0 % A)))
+      (bytes .inv (determinantAt p f (getD nodes q 0 % A)))
 
-  shares : quotientsOf (weightsOf nodes (memberAt p f i)) (pairsOf p f nodes)
+  shares : quotientsOf (weightsOf nodes (memberAt p f i)) (determinantsOf p f nodes)
       ≡ listed (length nodes) (λ q. number (share (length nodes) q))
-  unfolding weightsOf pairsOf
+  unfolding weightsOf determinantsOf
   shares =
       quotients-listed (length nodes) _ _
       ∙ listed-ext (length nodes) _ _
       (λ q h. ap (λ (d : ℕ). number (weight bytes (length nodes) (points nodes) q (byte (memberAt p f i))) ⊗ d)
-      (sym (number-inv (pairAt p f (getD nodes q 0 % A)))) ∙ sym (number-mul _ _))
+      (sym (number-inv (determinantAt p f (getD nodes q 0 % A)))) ∙ sym (number-mul _ _))
 
-  pub shares-length : length (quotientsOf (weightsOf nodes (memberAt p f i)) (pairsOf p f nodes)) ≡ length nodes
+  pub shares-length : length (quotientsOf (weightsOf nodes (memberAt p f i)) (determinantsOf p f nodes)) ≡ length nodes
   shares-length = ap length shares ∙ listed-length (length nodes) _
 
   pub coefficients-length : length (coefficientsOf p f nodes i) ≡ k
@@ -45,7 +45,7 @@ module _ (p : Profile) (f : Node) (nodes : List ℕ) (i : ℕ) where
   coefficients-length = listed-length k _
 
   pub coefficients-scaled : {c : ℕ} {w x : List ℕ} → length nodes ≡ k → c ≡ number (scaleAt p f i)
-      → w ≡ quotientsOf (weightsOf nodes (memberAt p f i)) (pairsOf p f nodes) → x ≡ listed k (λ b. 0)
+      → w ≡ quotientsOf (weightsOf nodes (memberAt p f i)) (determinantsOf p f nodes) → x ≡ listed k (λ b. 0)
       → addedScaled c 0 w x ≡ coefficientsOf p f nodes i
   unfolding coefficientsOf coefficient
   coefficients-scaled {c} {w} {x} same scaled divided zeros =

@@ -1,13 +1,12 @@
 -- The lost column: its rows, made from the strips folded for the plan's nodes, are those of the document's rebuild.
 use mathlib.Core.Path.{_≡_, sym, ap, ap₂, _∙_}
 use mathlib.Core.Logic.{_≢_}
-use mathlib.Core.Bool.{true}
 use mathlib.Core.List.{List}
 use Prim.Native.Nat.{ℕ, _+_, _-_, _*_, _/_, _%_, _<_}
 use native.Mathlib.Nat.{add-mul, mod-lt, div-lt-iff-lt-mul}
 use native.Mathlib.Decide.{ℕ-discrete}
 use native.Mathlib.Omega.{arith}
-use lib.Arith.{digits-div, digits-mod}
+use lib.Arith.{digits-div}
 use lib.ListN.{length, getD, take, drop, length-append, List·getD-append}
 use lib.Seq.{getD-append-add, take-at, drop-at, take-all}
 use Rattle.lists.proofs.Listed.{listed-length, listed-at, listed-ext}
@@ -21,19 +20,17 @@ use Rattle.document.specs.Profile.{Accepted}
 use Rattle.document.specs.Places.{place}
 use Rattle.document.specs.Bytes.{bytes, Byte, byte}
 use Rattle.document.specs.Encoding.{constantOf, columnOf}
-use Rattle.document.specs.Plan.{isOwn, rowAt, Walk, walkOf, chosenOver, nodesOver}
+use Rattle.document.specs.Plan.{rowAt, Walk, walkOf, chosenOver, nodesOver}
 use Rattle.document.specs.Rebuild.{rebuiltOver}
 use Rattle.document.proofs.Bytes.{byte-number}
 use Rattle.document.proofs.Decides.{decides-false}
-use Rattle.document.proofs.Bounds.{A>0, group-within}
 use Rattle.document.proofs.Walks.{Sound, walk-sound}
-use Rattle.document.proofs.Planned.{own-is}
-use Rattle.document.proofs.Chosen.{chosen-length, choice, outside}
+use Rattle.document.proofs.Chosen.{chosen-length, choice, outside, own-found}
 use Rattle.rebuild.specs.Folded.{foldedAt, foldedOf}
 use Rattle.rebuild.specs.Rows.{factorAt, memberAt, rowFrom}
 use Rattle.rebuild.specs.Column.{indexIn, rowOf, rowsOf, NodesOf}
 use Rattle.rebuild.proofs.Folded.{folded-single, folded-pair, folded-at}
-use Rattle.rebuild.proofs.Given.{off-is}
+use Rattle.document.proofs.Planned.{off-is}
 use Rattle.rebuild.proofs.Row.{row-rebuilt}
 use Rattle.rebuild.proofs.Index.{index-at}
 
@@ -88,16 +85,9 @@ module _ (p : Profile) (acc : Accepted p) (f : Node) (h : f .0 < p .n) where
   own-at : (i : ℕ) → i < A → i ≢ c
       → let at = indexIn (memberAt p f i) own in
       (at < length own) × (getD own at 0 ≡ memberAt p f i)
-  own-at i l d = index-at j own (found .0) (found .1) (found .2)
-    where
-      j : ℕ
-      j = memberAt p f i
-
-      is-own : isOwn A f j ≡ true
-      is-own = own-is A (A>0 p acc) k f j .1 (digits-div g l, λ e. d (sym (digits-mod g l) ∙ e))
-
-      found : (m : ℕ) × (m < length own) × (getD own m 0 ≡ j)
-      found = sound .own-all j (omega (arith, group-within p acc (f .0) h)) is-own
+  own-at i l d =
+      let found = own-found p acc f h w sound i l d in
+      index-at (memberAt p f i) own (found .0) (found .1) (found .2)
 
   pub nodes-of : NodesOf p f own chosen
   nodes-of = record {

@@ -29,7 +29,7 @@ use Rattle.document.specs.Bytes.{bytes, number}
 use Rattle.document.specs.Encoding.{constantOf}
 use Rattle.document.proofs.Bounds.{A>0}
 use Rattle.document.proofs.Bytes.{number-zero, number-one, number-byte, number-add}
-use Rattle.rebuild.specs.Rows.{factorAt, pairAt, pairsOf, ownScaleAt, scaleAt}
+use Rattle.rebuild.specs.Rows.{factorAt, determinantAt, determinantsOf, ownScaleAt, scaleAt}
 
 module _ (p : Profile) where
   open Profile p using (a as A, t)
@@ -67,9 +67,9 @@ module _ (p : Profile) where
       ∙ ap (λ (o : ℕ). o ⊕ number (constantOf p l c)) number-one)
 
   module _ (f : Node) where
-    pub pairs-length : (nodes : List ℕ) → length (pairsOf p f nodes) ≡ length nodes
-    unfolding pairsOf
-    pairs-length nodes = listed-length (length nodes) _
+    pub determinants-length : (nodes : List ℕ) → length (determinantsOf p f nodes) ≡ length nodes
+    unfolding determinantsOf
+    determinants-length nodes = listed-length (length nodes) _
 
     -- no constant is 1
     constant-ne : Accepted p → (i l : ℕ) → constantOf p i l ≢ bytes .𝟙
@@ -78,10 +78,10 @@ module _ (p : Profile) where
         let v : t ≡ 1 = sym (number-byte t (omega (arith, acc .one-byte))) ∙ ap number e ∙ number-one in
         omega (arith, acc .above-one)
 
-    pub pairs-no-zero : Accepted p → (nodes : List ℕ) → NoZero (pairsOf p f nodes)
-    unfolding pairsOf
-    pairs-no-zero acc nodes =
-        no-zero (length nodes) (λ q. pairAt p f (getD nodes q 0 % A))
+    pub determinants-no-zero : Accepted p → (nodes : List ℕ) → NoZero (determinantsOf p f nodes)
+    unfolding determinantsOf
+    determinants-no-zero acc nodes =
+        no-zero (length nodes) (λ q. determinantAt p f (getD nodes q 0 % A))
         (λ q h. pair-ne bytes (constantOf p) A (λ i l a b. constant-ne acc i l) (f .0 % A) (getD nodes q 0 % A)
         (mod-lt (f .0) (A>0 p acc)) (mod-lt (getD nodes q 0) (A>0 p acc)))
 

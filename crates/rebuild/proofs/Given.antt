@@ -3,7 +3,7 @@ use mathlib.Core.Path.{_≡_, sym, ap, ap₂, _∙_}
 use mathlib.Core.Logic.{_≢_}
 use mathlib.Core.Bool.{true, false}
 use mathlib.Core.List.{List, [], _∷_, _++_}
-use Prim.Native.Nat.{ℕ, _+_, _*_, _/_, _%_, _<_}
+use Prim.Native.Nat.{ℕ, _+_, _*_, _%_, _<_}
 use native.Mathlib.Nat.{add-zero}
 use native.Mathlib.Omega.{arith}
 use lib.ListN.{length, getD, take, drop, length-append}
@@ -16,7 +16,6 @@ use Rattle.strips.proofs.Added.{added-strips}
 use Rattle.document.specs.declared.Profile.{Profile}
 use Rattle.document.specs.declared.Node.{Node}
 use Rattle.document.specs.declared.Place.{Place}
-use Rattle.document.specs.Refusals.{Decides}
 use Rattle.document.specs.Profile.{Accepted}
 use Rattle.document.specs.Places.{place, partnerOf}
 use Rattle.document.specs.Bytes.{bytes, Byte, byte, number}
@@ -24,10 +23,9 @@ use Rattle.document.specs.Encoding.{constantOf}
 use Rattle.document.specs.Plan.{isOffDiagonal, rowAt, walkOf, nodesOver, planned, plannedAt}
 use Rattle.document.specs.Rebuild.{positionOf, givenAt}
 use Rattle.document.proofs.Bytes.{number-byte, number-add, number-mul}
-use Rattle.document.proofs.Decides.{decides-eq, decides-both, decides-not}
 use Rattle.document.proofs.Bounds.{A>0}
 use Rattle.document.proofs.Walks.{walk-sound}
-use Rattle.document.proofs.Planned.{over-distinct}
+use Rattle.document.proofs.Planned.{off-is, over-distinct}
 use Rattle.document.proofs.Chosen.{position-at}
 use Rattle.plan.specs.Steps.{placesAt, placesOf}
 use Rattle.plan.proofs.Places.{single, pair, split-places}
@@ -35,13 +33,7 @@ use Rattle.plan.proofs.Walked.{plan-places}
 use Rattle.rebuild.specs.Folded.{foldedOf, NodeAt}
 use Rattle.rebuild.proofs.Folded.{folded-single, folded-pair, folded-one}
 
--- a node off the diagonal lies in another group and at another local column
-pub off-is : (A : ℕ) (f : Node) (j : ℕ)
-    → Decides (isOffDiagonal A f j) ((j / A ≢ f .0 / A) × (j % A ≢ f .0 % A))
-unfolding isOffDiagonal
-off-is A f j =
-    decides-both _ _ (decides-not _ (decides-eq (j / A) (f .0 / A))) (decides-not _ (decides-eq (j % A) (f .0 % A)))
-
+-- a node off the diagonal has another local column
 pub off-column : (A : ℕ) (f : Node) (j : ℕ) → isOffDiagonal A f j ≡ true → f .0 % A ≢ j % A
 off-column A f j e c = off-is A f j .0 e .1 (sym c)
 

@@ -3,8 +3,8 @@
 --
 -- factorAt p i l              : the factor of row i at local column l
 -- memberAt p f i              : node i of f's group
--- pairAt p f l                : the determinant of row c at local column l and its partner
--- pairsOf p f nodes           : for each chosen node the determinant at its local column
+-- determinantAt p f l                : the determinant of row c at local column l and its partner
+-- determinantsOf p f nodes           : for each chosen node the determinant at its local column
 -- ownScaleAt p f i            : by what row c of the other node i of f's group is multiplied
 -- scaleAt p f i               : by what row c is multiplied for row i
 -- coefficientAt p f nodes i q : by what folded strip q is multiplied for row i
@@ -42,11 +42,11 @@ module _ (p : Profile) (f : Node) where
   abbrev pub memberAt : ℕ → ℕ
   memberAt i = partnerNode A i (f .0)
 
-  abbrev pub pairAt : ℕ → Byte
-  pairAt l = pair bytes (factorAt p) (f .0 % A) l
+  abbrev pub determinantAt : ℕ → Byte
+  determinantAt l = pair bytes (factorAt p) (f .0 % A) l
 
-  unfoldable pub pairsOf : List ℕ → List ℕ
-  pairsOf nodes = listed (length nodes) (λ q. number (pairAt (getD nodes q 0 % A)))
+  unfoldable pub determinantsOf : List ℕ → List ℕ
+  determinantsOf nodes = listed (length nodes) (λ q. number (determinantAt (getD nodes q 0 % A)))
 
   abbrev pub ownScaleAt : ℕ → Byte
   ownScaleAt i = bytes .inv (factorAt p (f .0 % A) i)

@@ -17,7 +17,7 @@ ghost use Rattle.rebuild.specs.Checked.{fromBundle};
 ghost use Rattle.rebuild.specs.Folded.{foldedOf, StripsFit, NodeAt};
 ghost use Rattle.gf256.specs.Field.{quotientsOf, NoZero};
 ghost use Rattle.coefficients.specs.Weights.{Different, Outside, denominatorsOf, weightsOf};
-ghost use Rattle.rebuild.specs.Rows.{factorAt, memberAt, pairAt, pairsOf, ownScaleAt, scaleAt};
+ghost use Rattle.rebuild.specs.Rows.{factorAt, memberAt, determinantAt, determinantsOf, ownScaleAt, scaleAt};
 ghost use Rattle.rebuild.specs.Rows.{coefficientsOf, rowFrom};
 ghost use Rattle.rebuild.specs.Column.{indexIn, rowOf, rowsOf, NodesOf};
 use document::Answer;
@@ -121,9 +121,9 @@ fn factor_at(p: Profile, i: usize, l: usize) -> u8
 }
 
 // The determinant of f's row at local column l and its partner: one of the two factors is 1, or both are 0.
-fn pair_at(p: Profile, f: Node, l: usize) -> u8
+fn determinant_at(p: Profile, f: Node, l: usize) -> u8
     requires { ⌜ Accepted p ⌝ }
-    ensures { λ r. ⌜ r ≡ number (pairAt p f l) ⌝ }
+    ensures { λ r. ⌜ r ≡ number (determinantAt p f l) ⌝ }
 {
     let c = f.0 % p.a;
     if l < c {
@@ -136,19 +136,19 @@ fn pair_at(p: Profile, f: Node, l: usize) -> u8
 }
 
 // The determinants at the chosen nodes. They do not depend on the row wanted: computed once, they serve every row.
-fn pairs(p: Profile, f: Node, nodes: &[u8], out: &mut [u8])
+fn pair_determinants(p: Profile, f: Node, nodes: &[u8], out: &mut [u8])
     requires { ⌜ Accepted p × (length (now out) ≡ length (now nodes)) ⌝ }
-    ensures { λ _. ⌜ now (out .exit) ≡ pairsOf p f (now (nodes .entry)) ⌝ }
+    ensures { λ _. ⌜ now (out .exit) ≡ determinantsOf p f (now (nodes .entry)) ⌝ }
 {
     let mut q = 0;
     while q < nodes.len() {
-        let d = pair_at(p, f, nodes[q] as usize % p.a);
+        let d = determinant_at(p, f, nodes[q] as usize % p.a);
         out[q] = d;
         q += 1;
     }
 }
 
-// By what f's row of the other node i of its group is multiplied.
+// By what row c of node i of f's group is multiplied, where c is f's local column and i is not c.
 fn own_scale(p: Profile, f: Node, i: usize) -> u8
     requires { ⌜ Accepted p ⌝ }
     ensures { λ r. ⌜ r ≡ number (ownScaleAt p f i) ⌝ }
@@ -156,7 +156,7 @@ fn own_scale(p: Profile, f: Node, i: usize) -> u8
     gf256::inverse(factor_at(p, f.0 % p.a, i))
 }
 
-// By what f's row is multiplied for row i.
+// By what row c is multiplied for row i of the lost column.
 fn scale(p: Profile, f: Node, i: usize) -> u8
     requires { ⌜ Accepted p ⌝ }
     ensures { λ r. ⌜ r ≡ number (scaleAt p f i) ⌝ }
@@ -169,14 +169,14 @@ fn scale(p: Profile, f: Node, i: usize) -> u8
 }
 
 // The weights at the node `at`, each divided by the determinant of its node.
-fn divided_weights(nodes: &[u8], denominators: &[u8], at: u8, pairs: &[u8], out: &mut [u8])
+fn divided_weights(nodes: &[u8], denominators: &[u8], at: u8, determinants: &[u8], out: &mut [u8])
     requires { ⌜ Different (now nodes) × Outside (now nodes) at × (now denominators ≡ denominatorsOf (now nodes)) ⌝ }
-    requires { ⌜ NoZero (now pairs) × (length (now pairs) ≡ length (now nodes)) ⌝ }
+    requires { ⌜ NoZero (now determinants) × (length (now determinants) ≡ length (now nodes)) ⌝ }
     requires { ⌜ length (now out) ≡ length (now nodes) ⌝ }
-    ensures { λ _. ⌜ now (out .exit) ≡ quotientsOf (weightsOf (now (nodes .entry)) at) (now (pairs .entry)) ⌝ }
+    ensures { λ _. ⌜ now (out .exit) ≡ quotientsOf (weightsOf (now (nodes .entry)) at) (now (determinants .entry)) ⌝ }
 {
     coefficients::weights(nodes, denominators, at, out);
-    gf256::divide_all(out, pairs);
+    gf256::divide_all(out, determinants);
 }
 
 // The coefficients of row i of the lost column.
@@ -185,20 +185,20 @@ fn row_coefficients(
     f: Node,
     nodes: &[u8],
     denominators: &[u8],
-    pairs: &[u8],
+    determinants: &[u8],
     i: usize,
     out: &mut [u8],
 )
     requires { ⌜ Accepted p × (f .0 < p .n) × (i < p .a) ⌝ }
     requires { ⌜ (length (now nodes) ≡ p .k) × Different (now nodes) × Outside (now nodes) (memberAt p f i) ⌝ }
-    requires { ⌜ (now denominators ≡ denominatorsOf (now nodes)) × (now pairs ≡ pairsOf p f (now nodes)) ⌝ }
+    requires { ⌜ (now denominators ≡ denominatorsOf (now nodes)) × (now determinants ≡ determinantsOf p f (now nodes)) ⌝ }
     requires { ⌜ length (now out) ≡ p .k ⌝ }
     ensures { λ _. ⌜ now (out .exit) ≡ coefficientsOf p f (now (nodes .entry)) i ⌝ }
 {
     let k = p.k;
     let at = f.0 / p.a * p.a + i;
-    let mut w = [0u8; 24];
-    divided_weights(nodes, denominators, at as u8, pairs, &mut w[..k]);
+    let mut w = [0u8; Profile::MAX_NODES];
+    divided_weights(nodes, denominators, at as u8, determinants, &mut w[..k]);
     let c = scale(p, f, i);
     strips::fill(out, 0);
     strips::add_scaled(out, 0, &w[..k], c);
@@ -254,16 +254,24 @@ fn put_row(
     own: &[u8],
     chosen: &[u8],
     denominators: &[u8],
-    pairs: &[u8],
+    determinants: &[u8],
 )
     requires { ⌜ Accepted p × (f .0 < p .n) × (i < p .a) × NodesOf p f (now own) (now chosen) ⌝ }
-    requires { ⌜ (now denominators ≡ denominatorsOf (now chosen)) × (now pairs ≡ pairsOf p f (now chosen)) ⌝ }
+    requires { ⌜ (now denominators ≡ denominatorsOf (now chosen)) × (now determinants ≡ determinantsOf p f (now chosen)) ⌝ }
     requires { ⌜ (length (now dst) ≡ p .s) × ((p .a - 1) * p .s + p .k * p .s ≤ length (now folded)) ⌝ }
     ensures { λ _. ⌜ now (dst .exit) ≡ rowOf p f (now (own .entry)) (now (chosen .entry)) (now (folded .entry)) i ⌝ }
 {
     let k = p.k;
-    let mut coefficients = [0u8; 24];
-    row_coefficients(p, f, chosen, denominators, pairs, i, &mut coefficients[..k]);
+    let mut coefficients = [0u8; Profile::MAX_NODES];
+    row_coefficients(
+        p,
+        f,
+        chosen,
+        denominators,
+        determinants,
+        i,
+        &mut coefficients[..k],
+    );
     let at = index_of(own, f.0 / p.a * p.a + i);
     rebuild_row(dst, folded, p, f, i, &coefficients[..k], at);
 }
@@ -277,10 +285,10 @@ fn put_rows(column: &mut [u8], folded: &[u8], p: Profile, f: Node, own: &[u8], c
     let k = p.k;
     let a = p.a;
     let s = p.s;
-    let mut denominators = [0u8; 24];
+    let mut denominators = [0u8; Profile::MAX_NODES];
     coefficients::denominators(chosen, &mut denominators[..k]);
-    let mut determinants = [0u8; 24];
-    pairs(p, f, chosen, &mut determinants[..k]);
+    let mut determinants = [0u8; Profile::MAX_NODES];
+    pair_determinants(p, f, chosen, &mut determinants[..k]);
     let mut i: usize = 0;
     while i < a {
         let from = i * s;
@@ -325,10 +333,10 @@ pub fn rebuild_column(
     requires { ⌜ StripsFit p f (now src) first stride ⌝ }
     ensures { λ _. ⌜ now (column .exit) ≡ rebuiltOf p f (now (src .entry)) first stride ⌝ }
 {
-    let mut nodes = [0u8; 72];
+    let mut nodes = [0u8; plan::MAX_LISTED];
     let count = plan::list_nodes(&mut nodes, p, f);
     let size = count * p.s;
-    let mut folded = [0u8; 12288];
+    let mut folded = [0u8; Profile::MAX_NODES * Profile::MAX_STRIP];
     fold_strips(
         &mut folded[..size],
         src,

@@ -17,16 +17,16 @@ use document::Recording;
 use document::Refusal;
 
 // The bytes before the bundle: n, k, A, t, S in two, wanted node, wanted scenario in four.
-const HEAD: usize = 11;
+const WANTED: usize = 11;
 
 // As much of the input as is needed: one byte more than the head and the longest bundle. A longer input answers as its
 // first ROOM bytes do: `longer-input` of proofs/Longer.antt.
-pub const ROOM: usize = HEAD + bundle::LONGEST + 1;
+pub const ROOM: usize = WANTED + bundle::LONGEST + 1;
 
 // The longest column.
-const COLUMN: usize = Profile::MAX_ROWS * Profile::MAX_STRIP;
+pub const COLUMN: usize = Profile::MAX_ROWS * Profile::MAX_STRIP;
 
-// Zeros, for the input.
+// A buffer for the input.
 pub fn input_buffer() -> [u8; ROOM]
     ensures { λ r. ⌜ longestInput + 1 ≡ length r ⌝ }
 {
@@ -125,7 +125,7 @@ fn rebuild_column(input: &[u8], p: Numbers, column: &mut [u8]) -> Answer
 {
     let lost = byte_in(input, 6) as usize;
     let r = recording(input);
-    let head = least(input.len(), HEAD);
+    let head = least(input.len(), WANTED);
     rebuild::rebuild(p, lost, r, &input[head..], column)
 }
 
@@ -144,7 +144,7 @@ fn put_answer(out: &mut [u8], input: &[u8]) -> usize
 }
 
 // What the program writes to standard output for this standard input: so many bytes at the start of `output`.
-pub fn answer(input: &[u8], output: &mut [u8; 2048]) -> usize
+pub fn answer(input: &[u8], output: &mut [u8; COLUMN]) -> usize
     ensures { λ r. ⌜ Answered (now (input .entry)) r (now (output .exit)) ⌝ }
 {
     put_answer(output, input)

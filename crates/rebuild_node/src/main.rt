@@ -20,7 +20,7 @@ fn skip_rest() {
 
 fn main() {
     let mut input = rebuild_answer::input_buffer();
-    let mut output = [0u8; 2048];
+    let mut output = [0u8; rebuild_answer::COLUMN];
     let got = io::read_full(STDIN_FILENO, &mut input);
     skip_rest();
     let n = rebuild_answer::answer(&input[..got], &mut output);

@@ -1,8 +1,15 @@
 -- 'Sample numbers (marked M: to be shown)': the marked cases of document 01 in one list, shown by one claim about it.
 --
--- Case   : what a definition gives, and what document 01 says it gives
--- marked : the cases
--- shown  : what the cases give is what document 01 says
+-- Case                : what a definition gives, and what document 01 says it gives
+-- profile t           : the numbers (4,2,2), S = 1, with the coupling constant t
+-- outcome o           : an answer and a lent buffer as one list: number, value, bytes
+-- outerColumns o      : the same with the columns of nodes 0 and 3 alone
+-- bundle f fields     : a bundle for the lost node f, scenario 7, with these fields 03
+-- strip j i v         : a field 03 for node j, row i with the strip v of one byte
+-- lent m              : a buffer of m bytes that is lent
+-- rebuilt f fields    : the outcome of a rebuild of node f from such a bundle
+-- marked              : the cases
+-- shown               : what the cases give is what document 01 says
 use mathlib.Core.Path.{_≡_, refl}
 use mathlib.Core.List.{List, [], _∷_, _++_, map}
 use Prim.Native.Nat.{ℕ}
@@ -24,9 +31,10 @@ use Rattle.document.specs.Bundle.{
   recordingBytes,
   profileContent,
   lostContent,
-  stripField,
+  stripFieldStart,
   placeIn,
   recordingIn,
+  openedAt,
   formed,
   headed,
   placed,
@@ -136,8 +144,8 @@ pub shown : map (λ c. c .gives) marked ≡ map (λ c. c .says) marked
 unfolding marked lent encodeOf encodeTests profileTests shapeAccepted constantAccepted stripAccepted tried
     answerNumber answerValue encoded laidOut coupledAt constantOf baseAt byteAt start listed sum weight byte
     number bytes _⊕_ _⊗_ double bitProduct raised inverse ℕ-discrete decLt planOf planTests planned planOver
-    pairsAt planBytes isOwn isDiagonal isOffDiagonal rising rebuildOf rebuildTests bundleTests formed headed
-    placed fresh placeIn recordingIn stripField plannedAt slice same all opening twoBytes fourBytes
+    pairsAt planBytes isOwn isDiagonal isOffDiagonal rising rebuildOf rebuildTests bundleTests openedAt formed headed
+    placed fresh placeIn recordingIn stripFieldStart plannedAt slice same all opening twoBytes fourBytes
     profileContent lostContent recordingBytes rebuiltOf rebuiltOver givenAt positionOf samePlace columnOf
     rebuiltAt rowAt otherAt base factor
 shown = refl

@@ -3,7 +3,7 @@ use mathlib.Core.Path.{ap, _∙_}
 use Prim.Native.Nat.{ℕ, _+_, _*_}
 use native.Mathlib.Omega.{arith}
 use borrow.Author.Needs.{needs}
-use Rattle.document.specs.Bundle.{headLength, stripFieldLength, stripField}
+use Rattle.document.specs.Bundle.{headLength, stripFieldLength, stripFieldStart}
 use Rattle.document.proofs.Price.{price-bound}
 use Rattle.bundle.proofs.bundle_length.Statement.{statement}
 use Rattle.bundle.proofs.bundle_length.Tie as tie
@@ -16,7 +16,7 @@ strip-field-requires c κs =
     let s = c .before in (s .pre, omega (arith, c .price .ensures, price-bound (s .args .p) (s .pre)))
 
 returns : tie.Need-returns
-unfolding stripField
+unfolding stripFieldStart
 returns c =
     let e = c .before in
     c .strip-field .ensures

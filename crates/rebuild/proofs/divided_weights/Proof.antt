@@ -21,7 +21,7 @@ returns c =
     let d = c .before .before in
     let w = d .before .before .before .before in
     let s = w .before .before .before .before .before .before in
-    d .divide-all .ensures ∙ ap (λ (xs : List ℕ). quotientsOf xs (s .args .pairs .now)) (w .weights .ensures)
+    d .divide-all .ensures ∙ ap (λ (xs : List ℕ). quotientsOf xs (s .args .determinants .now)) (w .weights .ensures)
 
 pub divided-weights-spec : {M : Type 1} → statement M
 divided-weights-spec = tie.close (tie.spec weights-requires divide-all-requires same-length returns)

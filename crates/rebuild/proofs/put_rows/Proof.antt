@@ -11,9 +11,9 @@ use Rattle.document.specs.declared.Profile.{Profile}
 use Rattle.document.proofs.Bounds.{room, column-bound}
 use Rattle.coefficients.specs.Weights.{denominatorsOf}
 use Rattle.coefficients.proofs.Lagrange.{denominators-length}
-use Rattle.rebuild.specs.Rows.{pairsOf}
+use Rattle.rebuild.specs.Rows.{determinantsOf}
 use Rattle.rebuild.specs.Column.{rowOf, rowsOf}
-use Rattle.rebuild.proofs.Factors.{pairs-length}
+use Rattle.rebuild.proofs.Factors.{determinants-length}
 use Rattle.rebuild.proofs.Parts.{parts, none-parts, next-part}
 use Rattle.rebuild.proofs.Column.{row-length}
 use Rattle.rebuild.proofs.put_rows.Statement.{statement}
@@ -64,31 +64,31 @@ module _ (c : tie.After-denominators2 Inv-loop μ-loop) where
 array-borrow-prefix-determinants : tie.Need-array-borrow-prefix-determinants Inv-loop μ-loop
 array-borrow-prefix-determinants c = few (start (c .before))
 
-slice-aggregate-pairs : tie.Need-slice-aggregate-pairs Inv-loop μ-loop
-slice-aggregate-pairs c = sym (length-take-le _ _ (array-borrow-prefix-determinants (c .before)))
+slice-aggregate-pair-determinants : tie.Need-slice-aggregate-pair-determinants Inv-loop μ-loop
+slice-aggregate-pair-determinants c = sym (length-take-le _ _ (array-borrow-prefix-determinants (c .before)))
 
-pairs-requires : tie.Need-pairs-requires Inv-loop μ-loop
-pairs-requires c κs =
+pair-determinants-requires : tie.Need-pair-determinants-requires Inv-loop μ-loop
+pair-determinants-requires c κs =
     let s = start (c .before .before) in
-    (s .pre .0 .0, sym (slice-aggregate-pairs c) ∙ sym (s .pre .0 .2 .count))
+    (s .pre .0 .0, sym (slice-aggregate-pair-determinants c) ∙ sym (s .pre .0 .2 .count))
 
 -- that of the second array holds the determinants
-module _ (c : tie.After-pairs Inv-loop μ-loop) where
+module _ (c : tie.After-pair-determinants Inv-loop μ-loop) where
   abbrev first : tie.After-denominators2 Inv-loop μ-loop
   first = c .before .before .before
 
   abbrev determinants : List ℕ
-  determinants = c .pairs .last .1 .1 .1 .0
+  determinants = c .pair-determinants .last .1 .1 .1 .0
 
   determinants-written : length determinants ≡ k first
   determinants-written =
-      ap length (c .pairs .ensures)
-      ∙ pairs-length (start first .args .p) (start first .args .f) (chosen first)
+      ap length (c .pair-determinants .ensures)
+      ∙ determinants-length (start first .args .p) (start first .args .f) (chosen first)
       ∙ start first .pre .0 .2 .count
 
   determinants-lent : take (k first) (determinants ++ drop (k first) (replicate 24 0))
-      ≡ pairsOf (start first .args .p) (start first .args .f) (chosen first)
-  determinants-lent = front determinants _ determinants-written ∙ c .pairs .ensures
+      ≡ determinantsOf (start first .args .p) (start first .args .f) (chosen first)
+  determinants-lent = front determinants _ determinants-written ∙ c .pair-determinants .ensures
 
 loop-holds : tie.Need-loop-holds Inv-loop μ-loop
 loop-holds c =
@@ -101,7 +101,7 @@ loop-holds c =
 
 -- in a turn the row lies within the column
 module _ (c : tie.In-loop Inv-loop μ-loop) where
-  abbrev held : tie.After-pairs Inv-loop μ-loop
+  abbrev held : tie.After-pair-determinants Inv-loop μ-loop
   held = c .before .before .before
 
   abbrev given : tie.Start Inv-loop μ-loop
@@ -202,8 +202,8 @@ put-rows-spec =
     slice-aggregate-denominators
     denominators-requires
     array-borrow-prefix-determinants
-    slice-aggregate-pairs
-    pairs-requires
+    slice-aggregate-pair-determinants
+    pair-determinants-requires
     loop-holds
     mul-from
     add-end

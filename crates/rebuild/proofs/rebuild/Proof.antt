@@ -7,7 +7,7 @@ use Rattle.document.specs.declared.Checked.the-variants.{Passed}
 use Rattle.document.specs.Profile.{Accepted, checkedOf}
 use Rattle.document.proofs.Accepts.{accepted}
 use Rattle.document.proofs.Bounds.{column-bound}
-use Rattle.rebuild.proofs.Answers.{profile-refused, node-refused, column-refused, left}
+use Rattle.rebuild.proofs.Answers.{profile-refused, node-refused, column-refused, from-bundle}
 use Rattle.rebuild.proofs.rebuild.Statement.{statement}
 use Rattle.rebuild.proofs.rebuild.Tie as tie
 
@@ -68,7 +68,7 @@ returns-4 c =
     let e = w .before .before in
     let n = e .before .before in
     let k = n .before .before .before in
-    w .rebuild-from .ensures ∙ left _ _ _ _ _ (q k) (passed k) (omega (arith, n .if1 .left)) (e .if2 .left)
+    w .rebuild-from .ensures ∙ from-bundle _ _ _ _ _ (q k) (passed k) (omega (arith, n .if1 .left)) (e .if2 .left)
 
 pub rebuild-spec : {M : Type 1} → statement M
 rebuild-spec =

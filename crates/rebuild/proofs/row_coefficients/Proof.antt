@@ -12,8 +12,8 @@ use Rattle.lists.specs.Listed.{listed}
 use Rattle.lists.proofs.Lent.{front-fits, front}
 use Rattle.document.proofs.Bounds.{group-within}
 use Rattle.coefficients.specs.Weights.{weightsOf}
-use Rattle.rebuild.specs.Rows.{memberAt, pairsOf}
-use Rattle.rebuild.proofs.Factors.{pairs-length, pairs-no-zero}
+use Rattle.rebuild.specs.Rows.{memberAt, determinantsOf}
+use Rattle.rebuild.proofs.Factors.{determinants-length, determinants-no-zero}
 use Rattle.rebuild.proofs.Coefficients.{shares-length, coefficients-scaled}
 use Rattle.rebuild.proofs.row_coefficients.Statement.{statement}
 use Rattle.rebuild.proofs.row_coefficients.Tie as tie
@@ -53,8 +53,8 @@ divided-weights-requires c κs =
       (s .pre .1 .0 .1, s .pre .1 .0 .2, s .pre .1 .1 .0 .0),
       (
         (
-          subst NoZero (sym alike) (pairs-no-zero p (s .args .f) (s .pre .0 .0) nodes),
-          ap length alike ∙ pairs-length p (s .args .f) nodes,
+          subst NoZero (sym alike) (determinants-no-zero p (s .args .f) (s .pre .0 .0) nodes),
+          ap length alike ∙ determinants-length p (s .args .f) nodes,
         ),
         sym (slice-aggregate-divided-weights c) ∙ sym (s .pre .1 .0 .0),
       ),
@@ -71,7 +71,7 @@ module _ (c : tie.After-divided-weights) where
   abbrev divided : List ℕ
   divided =
       quotientsOf (weightsOf (start .args .nodes .now) (memberAt (start .args .p) (start .args .f) (start .args .i)))
-      (pairsOf (start .args .p) (start .args .f) (start .args .nodes .now))
+      (determinantsOf (start .args .p) (start .args .f) (start .args .nodes .now))
 
   shares : c .divided-weights .last .1 .1 .1 .1 .0 ≡ divided
   shares = c .divided-weights .ensures ∙ ap (quotientsOf _) (start .pre .1 .1 .0 .1)

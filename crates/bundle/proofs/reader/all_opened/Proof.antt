@@ -4,7 +4,7 @@ use Prim.Native.Nat.{_-_, _≤_, zero-le}
 use native.Mathlib.Omega.{arith}
 use borrow.Author.Needs.{needs}
 use borrow.Author.Tests.{not-true, not-false}
-use Rattle.bundle.specs.Reader.{openedAt}
+use Rattle.document.specs.Bundle.{openedAt}
 use Rattle.bundle.proofs.Fit.{fits-front}
 use Rattle.bundle.proofs.Found.{Below, below-none, below-next, all-true, all-false}
 use Rattle.bundle.proofs.reader.all_opened.Statement.{statement}

@@ -9,9 +9,9 @@ use lib.ListN.{length}
 use Rattle.document.specs.Plan.{planned}
 use Rattle.document.specs.Bundle.{formed, headed}
 use Rattle.document.proofs.Price.{planned-price}
-use Rattle.bundle.specs.Reader.{Fits}
+use Rattle.bundle.specs.Reader.{HasFields}
 use Rattle.bundle.proofs.Fit.{head-room}
-use Rattle.bundle.proofs.Compared.{fits-whole, formed-length}
+use Rattle.bundle.proofs.Compared.{fits-whole, formed-whole}
 use Rattle.bundle.proofs.Checked.{form-refused, head-refused, place-refused, stale-refused, passed}
 use Rattle.bundle.proofs.reader.check.Statement.{statement}
 use Rattle.bundle.proofs.reader.check.Tie as tie
@@ -22,12 +22,12 @@ module _ (c : tie.Else1) where
   start = c .before .before .before
 
   form : formed (start .args .p) (start .args .f) (start .args .bundle .now) ≡ true
-  form = sym (c .before .formed .ensures (start .args .f) (start .pre .1)) ∙ not-false _ (c .if1 .left)
+  form = sym (c .before .formed .ensures) ∙ not-false _ (c .if1 .left)
 
-  whole : Fits (start .args .p) (length (planned (start .args .p) (start .args .f))) (start .args .bundle .now)
+  whole : HasFields (start .args .p) (length (planned (start .args .p) (start .args .f))) (start .args .bundle .now)
   whole =
       fits-whole _ _ (start .pre .0) (planned-price _ (start .pre .0) _ (start .pre .1))
-      (formed-length _ _ (start .args .f) refl form)
+      (formed-whole _ _ (start .args .f) refl form)
 
 -- past the test of the head
 module _ (c : tie.After-price) where
@@ -41,9 +41,9 @@ module _ (c : tie.After-price) where
   count : c .price .result ≡ length (planned (start formed-at .args .p) (start formed-at .args .f))
   count = c .price .ensures ∙ sym (planned-price _ (start formed-at .pre .0) _ (start formed-at .pre .1))
 
-  fits : Fits (start formed-at .args .p) (c .price .result) (start formed-at .args .bundle .now)
+  fits : HasFields (start formed-at .args .p) (c .price .result) (start formed-at .args .bundle .now)
   fits =
-      subst (λ (m : ℕ). Fits (start formed-at .args .p) m (start formed-at .args .bundle .now)) (sym count)
+      subst (λ (m : ℕ). HasFields (start formed-at .args .p) m (start formed-at .args .bundle .now)) (sym count)
       (whole formed-at)
 
 formed-requires : tie.Need-formed-requires
@@ -52,7 +52,7 @@ formed-requires c κs = search needs
 returns : tie.Need-returns
 returns c =
     let s = c .before .before .before in
-    form-refused _ _ _ _ (sym (c .before .formed .ensures (s .args .f) (s .pre .1)) ∙ not-true _ (c .if1 .taken))
+    form-refused _ _ _ _ (sym (c .before .formed .ensures) ∙ not-true _ (c .if1 .taken))
 
 headed-requires : tie.Need-headed-requires
 headed-requires c κs = (start c .pre .0, start c .pre .1, head-room _ _ (whole c))

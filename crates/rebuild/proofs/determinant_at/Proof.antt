@@ -1,12 +1,12 @@
--- `rebuild::pair_at` meets its contract: each return is one case of the determinant.
+-- `rebuild::determinant_at` meets its contract: each return is one case of the determinant.
 use mathlib.Core.Path.{ap, _∙_}
 use Prim.Native.Nat.{ℕ, _%_}
 use native.Mathlib.Omega.{arith}
 use borrow.Author.Needs.{needs}
 use Rattle.gf256.specs.Field.{_⊕_}
 use Rattle.rebuild.proofs.Factors.{determinant-none, determinant-lower, determinant-upper}
-use Rattle.rebuild.proofs.pair_at.Statement.{statement}
-use Rattle.rebuild.proofs.pair_at.Tie as tie
+use Rattle.rebuild.proofs.determinant_at.Statement.{statement}
+use Rattle.rebuild.proofs.determinant_at.Tie as tie
 
 rem-c : tie.Need-rem-c
 rem-c c = search needs
@@ -37,5 +37,5 @@ returns-3 c =
     determinant-none (s .args .p) (s .args .f .0 % s .args .p .a) (s .args .l)
     (omega (arith, c .if2 .left, c .before .if1 .left))
 
-pub pair-at-spec : {M : Type 1} → statement M
-pair-at-spec = tie.close (tie.spec rem-c constant-requires returns constant-requires-2 returns-2 returns-3)
+pub determinant-at-spec : {M : Type 1} → statement M
+determinant-at-spec = tie.close (tie.spec rem-c constant-requires returns constant-requires-2 returns-2 returns-3)

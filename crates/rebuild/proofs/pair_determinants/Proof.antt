@@ -1,4 +1,4 @@
--- `rebuild::pairs` meets its contract. The invariant: the first q entries are the first q determinants.
+-- `rebuild::pair_determinants` meets its contract. The invariant: the first q entries are the first q determinants.
 use mathlib.Core.Path.{ap, _∙_}
 use Prim.Native.Nat.{_-_, _%_}
 use native.Mathlib.Omega.{arith}
@@ -7,12 +7,12 @@ use lib.ListN.{length, getD}
 use Rattle.lists.specs.Listed.{listed}
 use Rattle.lists.proofs.Written.{Written, written-none, written-all, written-more}
 use Rattle.document.specs.Bytes.{number}
-use Rattle.rebuild.specs.Rows.{pairAt, pairsOf}
-use Rattle.rebuild.proofs.pairs.Statement.{statement}
-use Rattle.rebuild.proofs.pairs.Tie as tie
+use Rattle.rebuild.specs.Rows.{determinantAt, determinantsOf}
+use Rattle.rebuild.proofs.pair_determinants.Statement.{statement}
+use Rattle.rebuild.proofs.pair_determinants.Tie as tie
 
 abbrev Inv-loop : tie.InvT-loop
-Inv-loop p f nodes out₀ q₀ out q = Written (λ m. number (pairAt p f (getD nodes m 0 % p .a))) q out₀ out
+Inv-loop p f nodes out₀ q₀ out q = Written (λ m. number (determinantAt p f (getD nodes m 0 % p .a))) q out₀ out
 
 abbrev μ-loop : tie.MeasureT-loop
 μ-loop p f nodes out₀ q₀ out q = length out₀ - q
@@ -20,17 +20,17 @@ abbrev μ-loop : tie.MeasureT-loop
 loop-holds : tie.Need-loop-holds Inv-loop μ-loop
 loop-holds c = written-none _ _
 
-shared-slice-read-pair-at : tie.Need-shared-slice-read-pair-at Inv-loop μ-loop
-shared-slice-read-pair-at c = search needs
+shared-slice-read-determinant-at : tie.Need-shared-slice-read-determinant-at Inv-loop μ-loop
+shared-slice-read-determinant-at c = search needs
 
-cast-pair-at : tie.Need-cast-pair-at Inv-loop μ-loop
-cast-pair-at c = omega (arith, c .shared-slice-known2 .given (c .before .before .loop .q))
+cast-determinant-at : tie.Need-cast-determinant-at Inv-loop μ-loop
+cast-determinant-at c = omega (arith, c .shared-slice-known2 .given (c .before .before .loop .q))
 
-rem-pair-at : tie.Need-rem-pair-at Inv-loop μ-loop
-rem-pair-at c = search needs
+rem-determinant-at : tie.Need-rem-determinant-at Inv-loop μ-loop
+rem-determinant-at c = search needs
 
-pair-at-requires : tie.Need-pair-at-requires Inv-loop μ-loop
-pair-at-requires c κs = search needs
+determinant-at-requires : tie.Need-determinant-at-requires Inv-loop μ-loop
+determinant-at-requires c κs = search needs
 
 slice-write-out : tie.Need-slice-write-out Inv-loop μ-loop
 slice-write-out c = search needs
@@ -45,31 +45,31 @@ loop-again : tie.Need-loop-again Inv-loop μ-loop
 loop-again c =
     let l = c .before .before .before .before .loop in
     let s = c .before .before .before .before .before .before .before in
-    written-more _ (l .q) (s .args .out .now) (l .out) (l .inv) (omega arith) _ (c .pair-at .ensures)
+    written-more _ (l .q) (s .args .out .now) (l .out) (l .inv) (omega arith) _ (c .determinant-at .ensures)
 
 same-length : tie.Need-same-length Inv-loop μ-loop
 same-length c = search needs
 
 returns : tie.Need-returns Inv-loop μ-loop
-unfolding pairsOf
+unfolding determinantsOf
 returns c =
     let l = c .before .loop in
     let s = c .before .before .before .before in
     let p = s .args .p in
     written-all _ (l .q) (s .args .out .now) (l .out) (l .inv) (omega arith)
-    ∙ ap (λ n. listed n (λ m. number (pairAt p (s .args .f) (getD (s .args .nodes .now) m 0 % p .a)))) (s .pre .1)
+    ∙ ap (λ n. listed n (λ m. number (determinantAt p (s .args .f) (getD (s .args .nodes .now) m 0 % p .a)))) (s .pre .1)
 
-pub pairs-spec : {M : Type 1} → statement M
-pairs-spec =
+pub pair-determinants-spec : {M : Type 1} → statement M
+pair-determinants-spec =
     tie.close
     (tie.spec
     Inv-loop
     μ-loop
     loop-holds
-    shared-slice-read-pair-at
-    cast-pair-at
-    rem-pair-at
-    pair-at-requires
+    shared-slice-read-determinant-at
+    cast-determinant-at
+    rem-determinant-at
+    determinant-at-requires
     slice-write-out
     add-q
     loop-less
