@@ -106,7 +106,8 @@ module _ (p : Profile) (acc : Accepted p) (r : Recording) (x : List ℕ) (size :
       here = plannedAt p f i
 
       -- a part of field 03 of strip i
-      part : (o m : ℕ) → o + m ≤ stripFieldLength (p .s) → slice bundle (stripFieldStart p i + o) m ≡ slice (field here) o m
+      part : (o m : ℕ) → o + m ≤ stripFieldLength (p .s)
+          → slice bundle (stripFieldStart p i + o) m ≡ slice (field here) o m
       unfolding stripFieldStart bundleOf plannedAt
       part o m l =
           ap (λ (e : ℕ). slice bundle e m) (omega (arith, first-length, second-length))

@@ -257,7 +257,8 @@ fn put_row(
     determinants: &[u8],
 )
     requires { ⌜ Accepted p × (f .0 < p .n) × (i < p .a) × NodesOf p f (now own) (now chosen) ⌝ }
-    requires { ⌜ (now denominators ≡ denominatorsOf (now chosen)) × (now determinants ≡ determinantsOf p f (now chosen)) ⌝ }
+    requires { ⌜ (now denominators ≡ denominatorsOf (now chosen))
+        × (now determinants ≡ determinantsOf p f (now chosen)) ⌝ }
     requires { ⌜ (length (now dst) ≡ p .s) × ((p .a - 1) * p .s + p .k * p .s ≤ length (now folded)) ⌝ }
     ensures { λ _. ⌜ now (dst .exit) ≡ rowOf p f (now (own .entry)) (now (chosen .entry)) (now (folded .entry)) i ⌝ }
 {
