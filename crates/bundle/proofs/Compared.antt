@@ -17,14 +17,29 @@ use Rattle.document.specs.declared.Recording.{Recording}
 use Rattle.document.specs.Profile.{Accepted}
 use Rattle.document.specs.Places.{place, samePlace}
 use Rattle.document.specs.Plan.{planned, plannedAt, planBytes, priceOf}
-use Rattle.document.specs.Bundle.{recordingBytes, profileContent, lostContent, stripContentLength, stripFieldStart, placeIn, recordingIn, formed, headed, placed, fresh, headLength, stripFieldLength, openedAt}
+use Rattle.document.specs.Bundle.{
+  recordingBytes,
+  profileContent,
+  lostContent,
+  stripContentLength,
+  stripFieldStart,
+  placeIn,
+  recordingIn,
+  formed,
+  headed,
+  placed,
+  fresh,
+  headLength,
+  stripFieldLength,
+  openedAt,
+}
 use Rattle.document.proofs.Price.{price-bound}
 use Rattle.document.proofs.Bundle.{formed-length}
 use Rattle.document.proofs.PlanBytes.{bytes-length, bytes-place}
 use Rattle.bundle.specs.Reader.{HasFields, placedBy}
 
 module _ (p : Profile) (b : List ℕ) where
-  open Profile p using (n, k, a as A, t, s as S)
+  open Profile p using (n, k, a as A, s as S)
 
   -- a bundle as long as the fields of the planned places
   pub fits-whole : {m : ℕ} → Accepted p → m ≡ priceOf n k A → length b ≡ stripFieldStart p m → HasFields p m b
@@ -67,20 +82,17 @@ module _ (p : Profile) (b : List ℕ) where
         formed-left h = sym (formed-is ∙ rw (eq-eqb _ _ whole, one, h))
 
   -- refusal 7
-  module _ (f : Node) (r : Recording) {size : List ℕ} (d : size ≡ twoBytes S) where
-    abbrev profile : List ℕ
-    profile = n ∷ k ∷ A ∷ t ∷ getD size 0 0 ∷ getD size 1 0 ∷ []
-
-    profile-is : profile ≡ profileContent p
+  module _ (f : Node) (r : Recording) {profile : List ℕ} (d : profile ≡ profileContent p) where
+    profile-is : same (slice b 3 (length profile)) profile ≡ same (slice b 3 6) (profileContent p)
     unfolding profileContent twoBytes
     profile-is = rw d
 
-    pub not-profile : same (slice b 3 6) profile ≡ false → false ≡ headed p f r b
+    pub not-profile : same (slice b 3 (length profile)) profile ≡ false → false ≡ headed p f r b
     unfolding headed
     not-profile h = sym (rw (← profile-is, h))
 
-    pub headed-left : same (slice b 3 6) profile ≡ true → {id : List ℕ} → id ≡ fourBytes (r .scenario)
-        → same (slice b 12 5) (f .0 ∷ getD id 0 0 ∷ getD id 1 0 ∷ getD id 2 0 ∷ getD id 3 0 ∷ []) ≡ headed p f r b
+    pub headed-left : same (slice b 3 (length profile)) profile ≡ true → {lost : List ℕ} → lost ≡ lostContent f r
+        → same (slice b 12 (length lost)) lost ≡ headed p f r b
     unfolding headed lostContent recordingBytes fourBytes
     headed-left h e = sym (rw (← profile-is, h, e))
 
@@ -110,7 +122,8 @@ module _ (p : Profile) (b : List ℕ) where
       ∙ bytes-place (planned p f) i)
 
   -- refusal 9
-  pub fresh-is : (r : Recording) {at : ℕ} {id : List ℕ} (i : ℕ) → at ≡ stripFieldStart p i → id ≡ fourBytes (r .scenario)
+  pub fresh-is : (r : Recording) {at : ℕ} {id : List ℕ} (i : ℕ) → at ≡ stripFieldStart p i
+      → id ≡ fourBytes (r .scenario)
       → same (slice b (at + 3 + 2) (length id)) id ≡ fresh p r b i
   unfolding fresh recordingIn recordingBytes fourBytes
   fresh-is r i e d = rw (e, d)

@@ -17,7 +17,14 @@ use Rattle.document.specs.Profile.{Accepted}
 use Rattle.document.specs.Places.{place, Within}
 use Rattle.document.specs.Encoding.{start}
 use Rattle.document.specs.Plan.{planBytes}
-use Rattle.document.specs.Bundle.{recordingBytes, stripContent, stripContentLength, stripFieldLength, stripOf, stripFields}
+use Rattle.document.specs.Bundle.{
+  recordingBytes,
+  stripContent,
+  stripContentLength,
+  stripFieldLength,
+  stripOf,
+  stripFields,
+}
 use Rattle.document.proofs.Bounds.{room}
 use Rattle.document.proofs.PlanBytes.{bytes-length, bytes-place}
 use Rattle.document.proofs.Bundle.{content-length, fields-length}
@@ -59,7 +66,8 @@ module _ (p : Profile) (acc : Accepted p) (r : Recording) (x : List ℕ) (size :
   unfolding fieldOf opening twoBytes stripContent stripOf slice
   strip-parts q within from e =
       let cut : from + p .s - from ≡ p .s = omega arith in
-      let m : length (stripContent q r (stripOf p x q)) ≡ stripContentLength (p .s) = content-length p r x acc size q within in
+      let m : length (stripContent q r (stripOf p x q)) ≡ stripContentLength (p .s) =
+      content-length p r x acc size q within in
       rw (cut, e, m) refl
 
   -- after i of the fields there is room for one more

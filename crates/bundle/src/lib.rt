@@ -9,7 +9,8 @@ ghost use Rattle.document.specs.Places.{place, Within};
 ghost use Rattle.document.specs.Plan.{planned, priceOf, maxPlaces};
 ghost use Rattle.document.specs.Bundle.{recordingBytes, recordingLength, profileContent, profileContentLength};
 ghost use Rattle.document.specs.Bundle.{lostContent, lostContentLength, stripContent, stripOf, headLength};
-ghost use Rattle.document.specs.Bundle.{stripFieldLength, stripFields, bundleLength, bundleOf, writeOf, stripFieldStart};
+ghost use Rattle.document.specs.Bundle.{stripFieldLength, stripFields, bundleLength, bundleOf, writeOf};
+ghost use Rattle.document.specs.Bundle.{stripFieldStart};
 
 mod reader;
 
@@ -86,26 +87,42 @@ fn put_recording(out: &mut [u8], at: usize, r: Recording) -> usize
     fields::put_bytes(out, at, &bytes)
 }
 
-// Writes field 01: the profile.
+// The content of field 01: the profile.
+fn profile_content(p: Profile) -> [u8; PROFILE]
+    requires { ⌜ Accepted p ⌝ }
+    ensures { λ r. ⌜ r ≡ profileContent p ⌝ }
+{
+    let s = fields::two_bytes(p.s);
+    [p.n as u8, p.k as u8, p.a as u8, p.t, s[0], s[1]]
+}
+
+// The content of field 02: the lost node and the recording.
+fn lost_content(f: Node, r: Recording) -> [u8; LOST]
+    requires { ⌜ f .0 < 256 ⌝ }
+    ensures { λ content. ⌜ content ≡ lostContent f r ⌝ }
+{
+    let id = fields::four_bytes(r.scenario);
+    [f.0 as u8, id[0], id[1], id[2], id[3]]
+}
+
+// Writes field 01.
 fn put_profile(out: &mut [u8], at: usize, p: Profile) -> usize
     requires { ⌜ Accepted p × (at + (openingLength + profileContentLength) ≤ length (now out)) ⌝ }
     ensures { λ next. ⌜ Wrote (now (out .entry)) at (fieldOf 1 (profileContent p)) next (now (out .exit)) ⌝ }
 {
-    let opened = fields::put_bytes(out, at, b"\x01\x00\x06");
-    let s = fields::two_bytes(p.s);
-    let content = [p.n as u8, p.k as u8, p.a as u8, p.t, s[0], s[1]];
-    fields::put_bytes(out, opened, &content)
+    let after_opening = fields::put_bytes(out, at, b"\x01\x00\x06");
+    let content = profile_content(p);
+    fields::put_bytes(out, after_opening, &content)
 }
 
-// Writes field 02: the lost node and the recording.
+// Writes field 02.
 fn put_lost(out: &mut [u8], at: usize, f: Node, r: Recording) -> usize
     requires { ⌜ (f .0 < 256) × (at + (openingLength + lostContentLength) ≤ length (now out)) ⌝ }
     ensures { λ next. ⌜ Wrote (now (out .entry)) at (fieldOf 2 (lostContent f r)) next (now (out .exit)) ⌝ }
 {
-    let opened = fields::put_bytes(out, at, b"\x02\x00\x05");
-    let node = [f.0 as u8];
-    let named = fields::put_bytes(out, opened, &node);
-    put_recording(out, named, r)
+    let after_opening = fields::put_bytes(out, at, b"\x02\x00\x05");
+    let content = lost_content(f, r);
+    fields::put_bytes(out, after_opening, &content)
 }
 
 // Writes a field 03: a place, the recording, and the array's strip at that place.
@@ -115,12 +132,12 @@ fn put_strip(out: &mut [u8], at: usize, p: Profile, r: Recording, array: &[u8], 
     ensures { λ next. ⌜ Wrote (now (out .entry)) at
         (fieldOf 3 (stripContent q r (stripOf p (now (array .entry)) q))) next (now (out .exit)) ⌝ }
 {
-    let opened = fields::put_opening(out, at, 3, PLACED + p.s);
+    let after_opening = fields::put_opening(out, at, 3, PLACED + p.s);
     let numbers = [q.node.0 as u8, q.row.0 as u8];
-    let placed = fields::put_bytes(out, opened, &numbers);
-    let identified = put_recording(out, placed, r);
+    let after_place = fields::put_bytes(out, after_opening, &numbers);
+    let after_recording = put_recording(out, after_place, r);
     let from = p.start(q);
-    fields::put_bytes(out, identified, &array[from..from + p.s])
+    fields::put_bytes(out, after_recording, &array[from..from + p.s])
 }
 
 // Writes the fields 03 of the planned places, in plan order.
@@ -149,9 +166,9 @@ fn put_bundle(out: &mut [u8], p: Profile, f: Node, r: Recording, array: &[u8]) -
         × (length (now out) ≡ bundleLength p f) ⌝ }
     ensures { λ end. ⌜ Wrote (now (out .entry)) 0 (bundleOf p f r (now (array .entry))) end (now (out .exit)) ⌝ }
 {
-    let profiled = put_profile(out, 0, p);
-    let headed = put_lost(out, profiled, f, r);
-    put_strips(out, headed, p, f, r, array)
+    let after_profile = put_profile(out, 0, p);
+    let after_lost = put_lost(out, after_profile, f, r);
+    put_strips(out, after_lost, p, f, r, array)
 }
 
 // Cuts the bundle for a lost node from a stored array. After a refusal all bytes are what they were.

@@ -12,6 +12,8 @@ ghost use Rattle.document.specs.Bundle.{headLength, bundleTests, openedAt};
 ghost use Rattle.bundle.specs.Reader.{HasFields, placedBy, FirstNot};
 use crate::PLACED;
 use crate::PROFILE;
+use crate::lost_content;
+use crate::profile_content;
 use crate::strip_field;
 use document::Answer;
 use document::Node;
@@ -69,19 +71,11 @@ fn headed(p: Profile, f: Node, r: Recording, b: &[u8]) -> bool
     requires { ⌜ Accepted p × (f .0 < p .n) × (headLength ≤ length (now b)) ⌝ }
     ensures { λ t. ⌜ t ≡ Bundle.headed p f r (now (b .entry)) ⌝ }
 {
-    let s = fields::two_bytes(p.s);
-    let profile = [p.n as u8, p.k as u8, p.a as u8, p.t, s[0], s[1]];
+    let profile = profile_content(p);
     if !fields::same_at(b, OPENING, &profile) {
         return false;
     }
-    let scenario = fields::four_bytes(r.scenario);
-    let lost = [
-        f.0 as u8,
-        scenario[0],
-        scenario[1],
-        scenario[2],
-        scenario[3],
-    ];
+    let lost = lost_content(f, r);
     fields::same_at(b, OPENING + PROFILE + OPENING, &lost)
 }
 

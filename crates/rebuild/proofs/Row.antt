@@ -1,4 +1,4 @@
--- A row of the lost column: what `rebuild_row` writes, and that it is the algebra's rebuilt row.
+-- A row of the lost column: what `sum_row` writes, and that it is the algebra's rebuilt row.
 use mathlib.Core.Path.{_≡_, refl, sym, ap, ap₂, _∙_}
 use mathlib.Core.Logic.{_≢_}
 use mathlib.Core.List.{List}

@@ -206,7 +206,7 @@ fn row_coefficients(
 
 // Row i of the lost column: the sum of the folded strips by the row's coefficients, and the group's own strip `own`.
 // The A-1 strips of the group stand first in `folded`, then those of the chosen nodes.
-fn rebuild_row(
+fn sum_row(
     dst: &mut [u8],
     folded: &[u8],
     p: Profile,
@@ -274,7 +274,7 @@ fn put_row(
         &mut coefficients[..k],
     );
     let at = index_of(own, f.0 / p.a * p.a + i);
-    rebuild_row(dst, folded, p, f, i, &coefficients[..k], at);
+    sum_row(dst, folded, p, f, i, &coefficients[..k], at);
 }
 
 // The rows of the lost column. What does not depend on the row is computed once.

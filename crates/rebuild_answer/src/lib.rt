@@ -119,7 +119,7 @@ fn put_line(out: &mut [u8], r: Refusal) -> usize
 }
 
 // Rebuilds from the bundle that follows the head.
-fn rebuild_column(input: &[u8], p: Numbers, column: &mut [u8]) -> Answer
+fn rebuild_input(input: &[u8], p: Numbers, column: &mut [u8]) -> Answer
     ensures { λ a. ⌜ (a, now (column .exit)) ≡ rebuildOf p (wantedNode (now (input .entry)))
         (wantedRecording (now (input .entry))) (drop programHead (now (input .entry))) (now (column .entry)) ⌝ }
 {
@@ -136,7 +136,7 @@ fn put_answer(out: &mut [u8], input: &[u8]) -> usize
 {
     let p = numbers(input);
     let room = least(p.a * p.s, COLUMN);
-    let outcome = rebuild_column(input, p, &mut out[..room]);
+    let outcome = rebuild_input(input, p, &mut out[..room]);
     match outcome {
         Answer::Done(_) => room,
         Answer::Refused(r) => put_line(out, r),

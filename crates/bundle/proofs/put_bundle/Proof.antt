@@ -19,9 +19,9 @@ module _ (c : tie.After-put-profile) where
   abbrev start-1 : tie.Start
   start-1 = c .before .before .before .before
 
-  profiled : (c .put-profile .result ≡ 9)
+  after-profile : (c .put-profile .result ≡ 9)
       × (length (c .put-profile .last .0) ≡ length (start-1 .args .out .now))
-  profiled =
+  after-profile =
       let content = profileContent (start-1 .args .p) in (
         omega (arith, c .put-profile .ensures .ends, field-length 1 content, profile-length (start-1 .args .p)),
         c .put-profile .kept .0,
@@ -34,12 +34,12 @@ module _ (c : tie.After-put-lost) where
   abbrev start-2 : tie.Start
   start-2 = start-1 profile-2
 
-  headed : (c .put-lost .result ≡ 17)
+  after-lost : (c .put-lost .result ≡ 17)
       × (length (c .put-lost .last .0) ≡ length (start-2 .args .out .now))
-  headed =
+  after-lost =
       let f = start-2 .args .f in
       let r = start-2 .args .r in
-      let a = profiled profile-2 in (
+      let a = after-profile profile-2 in (
         omega (arith, c .put-lost .ensures .ends, field-length 2 (lostContent f r), lost-length f r, a .0),
         c .put-lost .kept .0 ∙ a .1,
       )
@@ -51,13 +51,13 @@ put-lost-requires : tie.Need-put-lost-requires
 put-lost-requires c κs =
     let a = c .before .before .before in
     let s = start-1 a in
-    (omega (arith, s .pre .1, s .pre .0 .shape .few-nodes), omega (arith, profiled a, s .pre .3))
+    (omega (arith, s .pre .1, s .pre .0 .shape .few-nodes), omega (arith, after-profile a, s .pre .3))
 
 put-strips-requires : tie.Need-put-strips-requires
 put-strips-requires c κs =
     let b = c .before .before .before in
     let s = start-2 b in
-    (s .pre .0, s .pre .1, s .pre .2, omega (arith, headed b, s .pre .3))
+    (s .pre .0, s .pre .1, s .pre .2, omega (arith, after-lost b, s .pre .3))
 
 same-length : tie.Need-same-length
 same-length c = search needs

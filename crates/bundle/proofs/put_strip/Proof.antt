@@ -18,19 +18,19 @@ module _ (c : tie.After-put-opening) where
   abbrev start-1 : tie.Start
   start-1 = c .before .before .before .before .before
 
-  opened : (c .put-opening .result ≡ start-1 .args .at + 3)
+  after-opening : (c .put-opening .result ≡ start-1 .args .at + 3)
       × (length (c .put-opening .last .0) ≡ length (start-1 .args .out .now))
   unfolding opening twoBytes
-  opened = (c .put-opening .ensures .ends, c .put-opening .kept .0)
+  after-opening = (c .put-opening .ensures .ends, c .put-opening .kept .0)
 
 module _ (c : tie.After-put-bytes) where
   abbrev opening-2 : tie.After-put-opening
   opening-2 = c .before .before .before .before .before .before .before
 
-  placed : (c .put-bytes .result ≡ start-1 opening-2 .args .at + 5)
+  after-place : (c .put-bytes .result ≡ start-1 opening-2 .args .at + 5)
       × (length (c .put-bytes .last .0) ≡ length (start-1 opening-2 .args .out .now))
-  placed =
-      let o = opened opening-2 in
+  after-place =
+      let o = after-opening opening-2 in
       (omega (arith, c .put-bytes .ensures .ends, o .0), c .put-bytes .kept .0 ∙ o .1)
 
 module _ (c : tie.After-put-recording) where
@@ -40,10 +40,10 @@ module _ (c : tie.After-put-recording) where
   abbrev start-3 : tie.Start
   start-3 = start-1 (opening-2 bytes-3)
 
-  identified : (c .put-recording .result ≡ start-3 .args .at + 9)
+  after-recording : (c .put-recording .result ≡ start-3 .args .at + 9)
       × (length (c .put-recording .last .0) ≡ length (start-3 .args .out .now))
-  identified =
-      let b = placed bytes-3 in (
+  after-recording =
+      let b = after-place bytes-3 in (
         omega (arith, c .put-recording .ensures .ends, recording-length (start-3 .args .r), b .0),
         c .put-recording .kept .0 ∙ b .1,
       )
@@ -75,12 +75,12 @@ slice-aggregate-put-bytes c = search needs
 put-bytes-requires : tie.Need-put-bytes-requires
 put-bytes-requires c κs =
     let o = c .before .before .before .before .before .before in
-    omega (arith, opened o, start-1 o .pre .3)
+    omega (arith, after-opening o, start-1 o .pre .3)
 
 put-recording-requires : tie.Need-put-recording-requires
 put-recording-requires c κs =
     let b = c .before .before .before in
-    omega (arith, placed b, start-1 (opening-2 b) .pre .3)
+    omega (arith, after-place b, start-1 (opening-2 b) .pre .3)
 
 start-requires : tie.Need-start-requires
 start-requires c κs = let s = start-3 (c .before .before) in (s .pre .0, s .pre .1)
@@ -108,7 +108,7 @@ put-bytes-requires-2 c κs =
     omega (
       arith,
       cut-length (s .args .array .now) (a .start .result) (s .args .p .s) (within a),
-      identified g,
+      after-recording g,
       s .pre .3,
     )
 

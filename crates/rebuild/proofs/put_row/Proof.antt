@@ -73,14 +73,14 @@ array-share-prefix-coefficients c =
     let w = c .before .before .before .before .before .before in
     front-fits (held w) _ (written w)
 
-slice-aggregate-rebuild-row : tie.Need-slice-aggregate-rebuild-row
-slice-aggregate-rebuild-row c = sym (length-take-le _ _ (array-share-prefix-coefficients (c .before)))
+slice-aggregate-sum-row : tie.Need-slice-aggregate-sum-row
+slice-aggregate-sum-row c = sym (length-take-le _ _ (array-share-prefix-coefficients (c .before)))
 
-rebuild-row-requires : tie.Need-rebuild-row-requires
-rebuild-row-requires c κs =
+sum-row-requires : tie.Need-sum-row-requires
+sum-row-requires c κs =
     let at = c .before .before in
     let s = start (at .before .before .before .before .before) in (
-      (s .pre .0 .0, s .pre .1 .1 .0, sym (slice-aggregate-rebuild-row c)),
+      (s .pre .0 .0, s .pre .1 .1 .0, sym (slice-aggregate-sum-row c)),
       (
         s .pre .1 .1 .1,
         λ d. omega (arith, at .index-of .ensures, s .pre .0 .3 .others (s .args .i) (s .pre .0 .2) d),
@@ -97,7 +97,7 @@ returns c =
     let at = row .before .before .before in
     let w = at .before .before .before .before .before in
     let s = start w in
-    row .rebuild-row .ensures
+    row .sum-row .ensures
     ∙ ap₂ (λ (at : ℕ) (cs : List ℕ). rowFrom (s .args .p) (s .args .f) (s .args .i) at cs (s .args .folded .now))
     (at .index-of .ensures) (lent w)
 
@@ -113,7 +113,7 @@ put-row-spec =
     add-index-of
     index-of-requires
     array-share-prefix-coefficients
-    slice-aggregate-rebuild-row
-    rebuild-row-requires
+    slice-aggregate-sum-row
+    sum-row-requires
     same-length
     returns)

@@ -25,14 +25,14 @@ mul-least c =
 least-requires : tie.Need-least-requires
 least-requires c κs = search needs
 
-slice-relend-prefix-rebuild-column : tie.Need-slice-relend-prefix-rebuild-column
-slice-relend-prefix-rebuild-column c = search needs
+slice-relend-prefix-rebuild-input : tie.Need-slice-relend-prefix-rebuild-input
+slice-relend-prefix-rebuild-input c = search needs
 
-slice-aggregate-rebuild-column : tie.Need-slice-aggregate-rebuild-column
-slice-aggregate-rebuild-column c = sym (length-take-le _ _ (slice-relend-prefix-rebuild-column (c .before)))
+slice-aggregate-rebuild-input : tie.Need-slice-aggregate-rebuild-input
+slice-aggregate-rebuild-input c = sym (length-take-le _ _ (slice-relend-prefix-rebuild-input (c .before)))
 
 -- what was lent to the rebuild
-module _ (r : tie.After-rebuild-column) where
+module _ (r : tie.After-rebuild-input) where
   abbrev least : tie.After-least
   least = r .before .before
 
@@ -43,21 +43,21 @@ module _ (r : tie.After-rebuild-column) where
   same = least .before .before .numbers .ensures .0
 
   fits : length (take (least .least .result) (start .args .out .now)) ≡ least .least .result
-  fits = sym (slice-aggregate-rebuild-column (r .before))
+  fits = sym (slice-aggregate-rebuild-input (r .before))
 
   lent : length (take (least .least .result) (start .args .out .now))
       ≡ min (least .before .before .numbers .result .a * least .before .before .numbers .result .s) (maxRows * maxStrip)
   lent = fits ∙ least .least .ensures
 
   -- the output with the lent part given back
-  whole : length (r .rebuild-column .last .1 .1 .0 ++ drop (least .least .result) (start .args .out .now))
+  whole : length (r .rebuild-input .last .1 .1 .0 ++ drop (least .least .result) (start .args .out .now))
       ≡ length (start .args .out .now)
   whole =
-      length-front (start .args .out .now) (r .rebuild-column .last .1 .1 .0) (least .least .result)
-      (r .rebuild-column .kept .1 .1 .0)
+      length-front (start .args .out .now) (r .rebuild-input .last .1 .1 .0) (least .least .result)
+      (r .rebuild-input .kept .1 .1 .0)
 
-rebuild-column-requires : tie.Need-rebuild-column-requires
-rebuild-column-requires c κs = search needs
+rebuild-input-requires : tie.Need-rebuild-input-requires
+rebuild-input-requires c κs = search needs
 
 enum-told : tie.Need-enum-told
 enum-told c = search needs
@@ -70,7 +70,7 @@ put-line-requires c κs =
     let o = c .before .before in
     let r = o .before .before .before .before in (
       omega (arith, whole r, start r .pre),
-      index-small _ _ (same r) _ (lent r) (r .rebuild-column .ensures) (o .outcome .given .1),
+      index-small _ _ (same r) _ (lent r) (r .rebuild-input .ensures) (o .outcome .given .1),
     )
 
 same-length : tie.Need-same-length
@@ -79,8 +79,8 @@ same-length c = search needs
 returns : tie.Need-returns
 returns c =
     let r = c .before .before .before .before in
-    column-answered _ _ (same r) _ (lent r) (r .rebuild-column .ensures) (c .enum-told .given .1) _ _
-    (r .rebuild-column .kept .1 .1 .0 ∙ fits r)
+    column-answered _ _ (same r) _ (lent r) (r .rebuild-input .ensures) (c .enum-told .given .1) _ _
+    (r .rebuild-input .kept .1 .1 .0 ∙ fits r)
 
 same-length-2 : tie.Need-same-length-2
 same-length-2 c = search needs
@@ -90,7 +90,7 @@ returns-2 c =
     let w = c .before .before in
     let o = w .before .before .before in
     let r = o .before .before .before .before in
-    line-answered _ _ (same r) _ (lent r) (r .rebuild-column .ensures) (o .outcome .given .1)
+    line-answered _ _ (same r) _ (lent r) (r .rebuild-input .ensures) (o .outcome .given .1)
     (omega (arith, w .put-line .kept .0, whole r, start r .pre)) (w .put-line .ensures)
 
 pub put-answer-spec : {M : Type 1} → statement M
@@ -100,9 +100,9 @@ put-answer-spec =
     numbers-requires
     mul-least
     least-requires
-    slice-relend-prefix-rebuild-column
-    slice-aggregate-rebuild-column
-    rebuild-column-requires
+    slice-relend-prefix-rebuild-input
+    slice-aggregate-rebuild-input
+    rebuild-input-requires
     enum-told
     enum-known-outcome
     put-line-requires

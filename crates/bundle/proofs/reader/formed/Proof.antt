@@ -1,11 +1,9 @@
 -- `bundle::reader::formed` meets its contract: the price is the number of planned places.
 use mathlib.Core.Path.{_≡_, sym, _∙_}
-use Prim.Native.Nat.{_<_}
 use native.Mathlib.Omega.{arith}
 use borrow.Author.Needs.{needs}
 use borrow.Author.Tests.{not-true, not-false}
 use lib.ListN.{length}
-use Rattle.document.specs.declared.Node.{Node}
 use Rattle.document.specs.Plan.{planned}
 use Rattle.document.specs.Bundle.{stripFieldStart}
 use Rattle.document.proofs.Price.{planned-price, price-bound}

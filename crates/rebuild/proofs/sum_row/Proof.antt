@@ -1,4 +1,4 @@
--- `rebuild::rebuild_row` meets its contract: the folded strips lie past the group's, and strip `own` is one of these.
+-- `rebuild::sum_row` meets its contract: the folded strips lie past the group's, and strip `own` is one of these.
 use mathlib.Core.Path.{_≡_, ap, _∙_}
 use mathlib.Core.List.{List}
 use Prim.Native.Nat.{ℕ, _+_, _-_, _*_, _≤_}
@@ -10,8 +10,8 @@ use Rattle.strips.proofs.Strip.{strip-lent}
 use Rattle.document.specs.declared.Profile.{Profile}
 use Rattle.document.proofs.Bounds.{room, column-bound}
 use Rattle.rebuild.proofs.Row.{row-lost, row-other}
-use Rattle.rebuild.proofs.rebuild_row.Statement.{statement}
-use Rattle.rebuild.proofs.rebuild_row.Tie as tie
+use Rattle.rebuild.proofs.sum_row.Statement.{statement}
+use Rattle.rebuild.proofs.sum_row.Tie as tie
 
 -- the sum of the folded strips
 module _ (c : tie.After-combine) where
@@ -120,8 +120,8 @@ returns-2 c =
     row-lost (s .args .p) (s .args .f) (s .args .i) (s .args .own) (s .args .coefficients .now) (s .args .folded .now)
     (summed (c .before .before .before .before .before)) (c .if1 .left)
 
-pub rebuild-row-spec : {M : Type 1} → statement M
-rebuild-row-spec =
+pub sum-row-spec : {M : Type 1} → statement M
+sum-row-spec =
     tie.close
     (tie.spec
     sub-combine

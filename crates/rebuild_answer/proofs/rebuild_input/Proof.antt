@@ -1,9 +1,9 @@
--- `rebuild_answer::rebuild_column` meets its contract: what follows the head is the bundle.
+-- `rebuild_answer::rebuild_input` meets its contract: what follows the head is the bundle.
 use mathlib.Core.Path.{_∙_}
 use borrow.Author.Needs.{needs}
 use Rattle.rebuild_answer.proofs.Answers.{bundle-part, read-rebuilt}
-use Rattle.rebuild_answer.proofs.rebuild_column.Statement.{statement}
-use Rattle.rebuild_answer.proofs.rebuild_column.Tie as tie
+use Rattle.rebuild_answer.proofs.rebuild_input.Statement.{statement}
+use Rattle.rebuild_answer.proofs.rebuild_input.Tie as tie
 
 byte-in-requires : tie.Need-byte-in-requires
 byte-in-requires c κs = search needs
@@ -41,8 +41,8 @@ returns c =
     ∙ read-rebuilt (s .args .input .now) (s .args .p) (s .args .column .now) (l .before .before .byte-in .ensures)
     (l .before .recording .ensures) (bundle-part (s .args .input .now) (l .least .result) (l .least .ensures))
 
-pub rebuild-column-spec : {M : Type 1} → statement M
-rebuild-column-spec =
+pub rebuild-input-spec : {M : Type 1} → statement M
+rebuild-input-spec =
     tie.close
     (tie.spec
     byte-in-requires
