@@ -5,7 +5,7 @@ use mathlib.Core.Logic.{_⊎_, inl, inr}
 use mathlib.Core.Bool.{Bool, true, false, false≢true}
 use mathlib.Core.List.{List, [], _∷_, _++_, map}
 use Prim.Native.Nat.{ℕ, zero, suc, _+_, _*_, _≤_, _<_, suc-le-suc}
-use native.Mathlib.Nat.{zero-lt-suc}
+use native.Mathlib.Nat.{zero-lt-suc, not-suc-le-zero}
 use native.Mathlib.Decide.{ℕ-discrete, decLt}
 use native.Mathlib.Omega.{arith}
 use lib.ListN.{length, getD}
@@ -373,6 +373,23 @@ first-nowhere (suc n) s fails r first =
     first-nowhere n (λ i. s (suc i)) (λ i l. fails (suc i) (suc-le-suc l)) r
     (first-later (fails 0 (zero-lt-suc n)) r first)
 
+-- where no refusal is the first, none of these lines holds, nor is one of the others the first
+pub lines-fail : (n : ℕ) (s : ℕ → Sentence) (table : List Sentence)
+    → ((r : Refusal) → FirstOf (listed n s ++ table) r → ⊥) → (i : ℕ) → i < n → s i .says → ⊥
+unfolding listed
+lines-fail zero s table nowhere i l h = not-suc-le-zero l
+lines-fail (suc n) s table nowhere zero l h = nowhere (s 0 .refusal) (here h)
+lines-fail (suc n) s table nowhere (suc i) l h =
+    lines-fail n (λ i. s (suc i)) table (λ r first. nowhere r (later (λ m. nowhere (s 0 .refusal) (here m)) first)) i
+    (omega arith) h
+
+pub lines-past : (n : ℕ) (s : ℕ → Sentence) {table : List Sentence}
+    → ((r : Refusal) → FirstOf (listed n s ++ table) r → ⊥) → (r : Refusal) → FirstOf table r → ⊥
+unfolding listed
+lines-past zero s nowhere r first = nowhere r first
+lines-past (suc n) s nowhere r first =
+    lines-past n (λ i. s (suc i)) (λ r first. nowhere r (later (λ m. nowhere (s 0 .refusal) (here m)) first)) r first
+
 map-listed : (n : ℕ) (s : ℕ → Sentence) (g : Sentence → ℕ) → map g (listed n s) ≡ listed n (λ i. g (s i))
 unfolding listed
 map-listed zero s g = refl
@@ -401,7 +418,7 @@ module _ (p : Profile) (f : Node) (r : Recording) (b : List ℕ) where
         (h .field-01, (h .field-02, λ i l. opening-is p b i ∙ h .fields-03 i l)),
       ))
 
-  decides-headed : Decides (headed p f r b) (Headed p f r b)
+  pub decides-headed : Decides (headed p f r b) (Headed p f r b)
   unfolding headed profileContent lostContent recordingBytes
   decides-headed =
       decides-same _ (decides-both _ _ (decides-list _ _) (decides-list _ _))

@@ -2,20 +2,28 @@
 use mathlib.Core.Path.{_≡_, refl, sym, ap, _∙_}
 use mathlib.Core.Logic.{_≢_}
 use mathlib.Core.Bool.{not}
-use mathlib.Core.List.{List, [], _∷_, _++_}
+use mathlib.Core.List.{List, [], _∷_, _++_, append-nil}
 use Prim.Native.Nat.{ℕ, _+_, _*_, _≤_, _<_}
 use native.Mathlib.Omega.{arith}
 use lib.Dec.{eqb, ltb}
 use lib.ListN.{length, getD, drop}
+use Rattle.lists.specs.Listed.{listed}
 use Rattle.lists.proofs.Slice.{slice-at, slice-length}
-use Rattle.fields.specs.Fields.{twoBytes, opening}
+use Rattle.fields.specs.Fields.{twoBytes, fourBytes, opening}
 use Rattle.document.specs.declared.Numbers.{Numbers}
 use Rattle.document.specs.declared.Profile.{Profile}
 use Rattle.document.specs.declared.Node.{Node}
 use Rattle.document.specs.declared.Place.{Place}
 use Rattle.document.specs.declared.Recording.{Recording}
 use Rattle.document.specs.declared.Refusal.{Refusal}
-use Rattle.document.specs.declared.Refusal.the-variants.{OutOfRange, BufferLength, BundleForm}
+use Rattle.document.specs.declared.Refusal.the-variants.{
+  OutOfRange,
+  BufferLength,
+  BundleForm,
+  BundleHead,
+  Misplaced,
+  Stale,
+}
 use Rattle.document.specs.declared.Answer.{Answer}
 use Rattle.document.specs.declared.Answer.the-variants.{Done, Refused}
 use Rattle.document.specs.Refusals.{answerNumber, answerValue, tried}
@@ -33,11 +41,13 @@ use Rattle.document.specs.Bundle.{
   writeTests,
   writeOf,
   stripFieldStart,
+  placeIn,
+  recordingIn,
   stripIn,
   bundleTests,
 }
 use Rattle.document.specs.Rebuild.{rebuiltOf, firstStrip, rebuildTests, rebuildOf}
-use Rattle.document.proofs.Decides.{decides-lt, decides-eq}
+use Rattle.document.proofs.Decides.{decides-lt, decides-eq, decides-list, decides-place}
 use Rattle.document.proofs.Tried.{tried-map}
 use Rattle.document.proofs.Bounds.{room, A>0}
 use Rattle.document.proofs.Walks.{Sound, complete-sound, walk-complete, walk-sound}
@@ -61,6 +71,8 @@ use Rattle.demands.specs.Refusals.{
   writeSentences,
   Formed,
   Headed,
+  placeRead,
+  scenarioRead,
   bundleSentences,
   rebuildSentences,
 }
@@ -92,6 +104,8 @@ use Rattle.demands.proofs.Demand1.{
   first-later,
   first-past,
   first-nowhere,
+  lines-fail,
+  lines-past,
   tried-done,
   done-accepted,
   done-later,
@@ -101,6 +115,7 @@ use Rattle.demands.proofs.Demand1.{
   scenario-is,
   opening-is,
   decides-formed,
+  decides-headed,
   demand-1-plan,
   demand-1-write,
   demand-1-rebuild,
@@ -179,7 +194,7 @@ module _ (p : Numbers) (f : ℕ) (r : Recording) (b y : List ℕ) (e : NotRefuse
   done-rebuild =
       tried-done y 0 (rebuiltOf profile lost b firstStrip (stripFieldLength (p .s))) (rebuildTests p f r b y) _ is-done
 
-  acc : Accepted profile
+  pub acc : Accepted profile
   unfolding rebuildSentences
   acc = done-accepted y p _ (rebuildOf p f r b y) _ (demand-1-rebuild p f r b y .refuses) is-done
 
@@ -189,7 +204,7 @@ module _ (p : Numbers) (f : ℕ) (r : Recording) (b y : List ℕ) (e : NotRefuse
   unfolding rebuildSentences
   later-lines = done-later y p _ (rebuildOf p f r b y) _ (demand-1-rebuild p f r b y .refuses) is-done
 
-  below : f < p .n
+  pub below : f < p .n
   below = decided _ (decides-lt f (p .n)) (λ m. later-lines OutOfRange (here m))
 
   column-size : length y ≡ p .a * p .s
@@ -197,11 +212,51 @@ module _ (p : Numbers) (f : ℕ) (r : Recording) (b y : List ℕ) (e : NotRefuse
       decided _ (decides-eq (length y) (p .a * p .s))
       (λ m. later-lines BufferLength (later (λ n. n below) (here m)))
 
-  is-formed : Formed profile lost b
+  pub is-formed : Formed profile lost b
   unfolding bundleSentences
   is-formed =
       decided _ (decides-formed profile lost r b)
       (λ m. later-lines BundleForm (later (λ n. n below) (later (λ n. n column-size) (here m))))
+
+  pub is-headed : Headed profile lost r b
+  unfolding bundleSentences
+  is-headed =
+      decided _ (decides-headed profile lost r b)
+      (λ m. later-lines BundleHead
+      (later (λ n. n below) (later (λ n. n column-size) (later (λ n. n is-formed) (here m)))))
+
+  -- the lines of 8 and 9
+  strip-lines : (q : Refusal)
+      → FirstOf
+      (listed (length (planned profile lost))
+      (λ i. record { refusal = Misplaced i; says = placeRead profile b i ≢ plannedAt profile lost i })
+      ++ listed (length (planned profile lost))
+      (λ i. record { refusal = Stale i; says = scenarioRead profile b i ≢ fourBytes (r .scenario) })) q
+      → ⊥
+  unfolding bundleSentences
+  strip-lines q first =
+      later-lines q
+      (later (λ n. n below) (later (λ n. n column-size) (later (λ n. n is-formed) (later (λ n. n is-headed) first))))
+
+  pub is-placed : (i : ℕ) → i < length (planned profile lost) → placeIn profile b i ≡ plannedAt profile lost i
+  is-placed i l =
+      decided _ (decides-place (placeIn profile b i) (plannedAt profile lost i))
+      (λ m. lines-fail (length (planned profile lost)) _ _ strip-lines i l (λ e. m (place-is profile b i ∙ e)))
+
+  pub is-fresh : (i : ℕ) → i < length (planned profile lost) → recordingIn profile b i ≡ recordingBytes r
+  unfolding recordingBytes
+  is-fresh i l =
+      decided _ (decides-list (recordingIn profile b i) (recordingBytes r))
+      (λ m. lines-fail (length (planned profile lost)) _ [] stale-lines i l
+      (λ e. m (scenario-is profile b i ∙ e)))
+    where
+      stale-lines : (q : Refusal)
+          → FirstOf
+          (listed (length (planned profile lost))
+          (λ i. record { refusal = Stale i; says = scenarioRead profile b i ≢ fourBytes (r .scenario) }) ++ []) q
+          → ⊥
+      stale-lines q first =
+          lines-past (length (planned profile lost)) _ strip-lines q (rw append-nil at first)
 
   sound : Sound (p .n) (p .a) lost (walkOf profile lost)
   sound = walk-sound profile acc lost below

@@ -1,18 +1,18 @@
 -- Demand 3, from the bundle on: 'Whatever bytes stand at those places, some encoded array has them, and the rebuilt
 -- column is the one every such array has on that drive. No byte elsewhere, old or new, changes the rebuild. ..'
 --
--- Bytes x               : each entry of x is a byte
--- EncodedArray p x      : x is an encoded array
--- HasStrips p qs x v    : x has the strip v i at place i of qs, for each of the places qs
--- AlikeAt p qs x y      : the arrays x and y are alike at the places qs
--- columnIn p x j        : the column of node j in the array x
--- CutFrom p f x r b     : b is a bundle cut from the stored array x
+-- Bytes x                 : each entry of x is a byte
+-- EncodedArray p x        : x is an encoded array
+-- HasStrips p qs x v      : x has the strip v i at place i of qs, for each of the places qs
+-- AlikeAt p qs x y        : the arrays x and y are alike at the places qs
+-- columnIn p x j          : the column of node j in the array x
 -- WrittenBundle p f r x b : what cutting a bundle from x, written into b, leaves and answers
--- NotRefused p f r b y     : a rebuild of node f from the bundle b, into y, is not refused
+-- CutFrom p f x r b       : b is a bundle cut from the stored array x
+-- NotRefused p f r b y    : a rebuild of node f from the bundle b, into y, is not refused
 -- RebuiltColumn p f r b y : some encoded array has the strips of b, and the rebuilt column is that of each such array
 --
--- The statements, shown in proofs/Demand3.antt under the name beside each (the first two over a walk w: FitsOver p f w,
--- OneColumnOver p f w):
+-- The statements, shown in proofs/Demand3.antt, the last in proofs/Whole.antt, under the name beside each (the first two
+-- over a walk w: FitsOver p f w, OneColumnOver p f w):
 -- Fits                  : any bytes at the planned places stand in some encoded array              fits
 -- OneColumn             : encoded arrays alike at the planned places have the same lost column     one-column
 -- Demand3Write          : writing a bundle that is not refused                                     demand-3-write
@@ -24,6 +24,7 @@
 -- CutPasses             : a bundle cut for the wanted numbers is not refused                       cut-passes
 -- CutColumn             : the column rebuilt from a bundle cut from any stored array               cut-column
 -- CutRebuilds           : from an encoded array, the rebuild gives the lost column back            cut-rebuilds
+-- WholeBundle           : what is not refused is the bundle cut from any array with its strips     whole-bundle
 --
 -- planned p f are the planned places, stripOf p x q is the strip at the place q of the array x, stripIn p b i the strip i
 -- of the bundle b: document/specs/Plan.antt and Bundle.antt.
@@ -195,3 +196,10 @@ module _ (p : Numbers) (f : ℕ) where
   CutRebuilds =
       (x : List ℕ) (r u : Recording) (b y : List ℕ) → CutFrom p f x r b → EncodedArray wanted x → NotRefused p f u b y
       → rebuildOf p f u b y .1 ≡ columnIn wanted x f
+
+  -- A bundle that is not refused is the one that is cut, for the wanted recording, from any array with its strips:
+  -- refusals 6 to 9 leave no byte but the strips free.
+  abbrev pub WholeBundle : Type 0
+  WholeBundle =
+      (r : Recording) (b y x : List ℕ) → NotRefused p f r b y → length x ≡ p .n * p .a * p .s
+      → HasStrips wanted plan x (stripIn wanted b) → b ≡ bundleOf wanted (record { 0 = f }) r x
