@@ -89,6 +89,7 @@ use Rattle.demands.specs.Refusals.{
   Demand1Plan,
   Demand1Write,
   Demand1Rebuild,
+  Demand1,
 }
 
 -- done is not refused
@@ -478,3 +479,12 @@ demand-1-rebuild p f r b y = record {
         ≡ 0 ∷ 0 ∷ 0 ∷ 0 ∷ 0 ∷ 0 ∷ 0 ∷ (listed strips (λ i. i) ++ listed strips (λ i. i))
     indices =
         ap (λ (l : List ℕ). 0 ∷ 0 ∷ 0 ∷ 0 ∷ 0 ∷ 0 ∷ 0 ∷ l) (strip-lines (λ s. indexOf (s .refusal)) _ _)
+
+-- Demand 1 for the four calls.
+pub demand-1 : Demand1
+demand-1 = record {
+  encode = demand-1-encode;
+  plan = demand-1-plan;
+  write = demand-1-write;
+  rebuild = demand-1-rebuild;
+}

@@ -53,6 +53,7 @@ use Rattle.document.proofs.Bounds.{room, A>0}
 use Rattle.document.proofs.Walks.{Sound, complete-sound, walk-complete, walk-sound}
 use Rattle.document.proofs.Price.{over-price, planned-price}
 use Rattle.document.proofs.Planned.{over-distinct, over-off-lost}
+use Rattle.document.proofs.Chosen.{planned-within}
 use Rattle.document.proofs.Bundle.{bundle-length}
 use Rattle.document.proofs.Cut.{
   bundle-ext,
@@ -127,6 +128,7 @@ pub demand-3-places : Demand3Places
 demand-3-places p acc f h w complete =
     let sound : Sound (p .n) (p .a) f w = complete-sound p acc f h w complete in
     record {
+      within = planned-within p acc f h w sound;
       distinct = over-distinct (p .a) (A>0 p acc) (p .k) f w sound;
       off-lost = over-off-lost (p .a) (A>0 p acc) (p .k) f w sound;
       price = over-price p acc f h w complete;
@@ -344,7 +346,7 @@ module _ (p : Numbers) (f : ℕ) (r : Recording) (x b : List ℕ) (e : answerNum
   unfolding writeOf
   done-write = tried-done b (length bundle) bundle (writeTests p f x b) _ is-written
 
-  cut-accepted : Accepted wanted
+  pub cut-accepted : Accepted wanted
   unfolding writeSentences
   cut-accepted = done-accepted b p _ (writeOf p f r x b) _ (demand-1-write p f r x b .refuses) is-written
 
@@ -398,7 +400,7 @@ module _ (p : Numbers) (f : ℕ) (r : Recording) (x b : List ℕ) (e : answerNum
         sym (opening-is wanted bundle i) ∙ cut-opening wanted cut-accepted r x array-size node cut-below i l;
   }
 
-  headed-cut : Headed wanted node r bundle
+  pub headed-cut : Headed wanted node r bundle
   unfolding profileContent lostContent recordingBytes
   headed-cut = record {
     field-01 = cut-first wanted cut-accepted r x array-size node cut-below .1;
@@ -432,7 +434,7 @@ demand-3-write p f r x b e = written-bundle p f r x b e
 -- ---- bundles cut from stored arrays
 module _ (p : Numbers) (f : ℕ) where
   -- what is cut is the bundle of the array
-  cut-is : (x : List ℕ) (r : Recording) (b : List ℕ) → CutFrom p f x r b
+  pub cut-is : (x : List ℕ) (r : Recording) (b : List ℕ) → CutFrom p f x r b
       → b ≡ bundleOf (profileOf p) (record { 0 = f }) r x
   cut-is x r b cut =
       sym (cut .leaves) ∙ written-bundle p f r x (cut .lent) (cut .not-refused) .holds

@@ -1,11 +1,12 @@
--- A bundle that is not refused is, byte for byte, the one cut from any array with its strips.
-use mathlib.Core.Path.{_≡_, sym, ap, _∙_}
-use mathlib.Core.List.{List}
-use Prim.Native.Nat.{ℕ, zero, suc, _+_, _*_, _-_, _≤_, _<_}
+-- A bundle that is not refused is, byte for byte, the one cut from any array with its strips, and was cut for the wanted
+-- numbers. Demand 3, whole.
+use mathlib.Core.Path.{_≡_, sym, ap, ap₂, _∙_}
+use mathlib.Core.List.{List, _∷_}
+use Prim.Native.Nat.{ℕ, zero, suc, _+_, _*_, _-_, _/_, _%_, _≤_, _<_}
 use native.Mathlib.Nat.{zero-mul, suc-mul}
 use native.Mathlib.Decide.{decLt}
 use native.Mathlib.Omega.{arith}
-use lib.ListN.{length, getD}
+use lib.ListN.{length, getD, drop}
 use lib.Seq.{ext-getD}
 use Rattle.lists.specs.Put.{slice}
 use Rattle.lists.proofs.Slice.{slice-at}
@@ -32,9 +33,35 @@ use Rattle.document.specs.Bundle.{
 }
 use Rattle.document.proofs.Bundle.{bundle-length}
 use Rattle.document.proofs.Cut.{cut-first, cut-second, cut-opening, cut-place, cut-recording, cut-strip}
-use Rattle.demands.specs.Rebuild.{HasStrips, NotRefused, WholeBundle}
+use Rattle.demands.specs.Refusals.{Headed}
+use Rattle.demands.specs.Rebuild.{HasStrips, NotRefused, CutForWanted, WholeBundle}
+use Rattle.demands.specs.Demand3.{Demand3}
 use Rattle.demands.proofs.Demand1.{length-is, opening-is}
-use Rattle.demands.proofs.Demand3.{acc, below, is-formed, is-headed, is-placed, is-fresh}
+use Rattle.demands.proofs.Demand3.{
+  demand-3-places,
+  demand-3-walk,
+  demand-3-plan,
+  fits,
+  one-column,
+  acc,
+  below,
+  is-formed,
+  is-headed,
+  is-placed,
+  is-fresh,
+  demand-3-rebuild,
+  same-strips,
+  same-answer,
+  cut-accepted,
+  headed-cut,
+  demand-3-write,
+  cut-is,
+  cut-passes,
+  same-column,
+  same-bundle,
+  cut-column,
+  cut-rebuilds,
+}
 
 -- ---- lists alike at the indices of a range
 module _ (x y : List ℕ) where
@@ -169,3 +196,63 @@ module _ (p : Numbers) (f : ℕ) (r : Recording) (b y x : List ℕ) (e : NotRefu
 
 pub whole-bundle : (p : Numbers) (f : ℕ) → WholeBundle p f
 whole-bundle p f r b y x e size has = whole p f r b y x e size has
+
+-- ---- a bundle cut for other numbers
+two-bytes : (a b : ℕ) → a ≤ 512 → b ≤ 512 → twoBytes a ≡ twoBytes b → a ≡ b
+unfolding twoBytes
+two-bytes a b l m e =
+    let high : a / 256 % 256 ≡ b / 256 % 256 = ap (λ (v : List ℕ). getD v 0 0) e in
+    let low : a % 256 ≡ b % 256 = ap (λ (v : List ℕ). getD v 1 0) e in
+    omega (arith, high, low)
+
+-- numbers with the same content of field 01
+contentOf : Numbers → List ℕ
+contentOf p = p .n ∷ p .k ∷ p .a ∷ p .t ∷ twoBytes (p .s)
+
+same-numbers : (p q : Numbers) → p .s ≤ 512 → q .s ≤ 512 → contentOf p ≡ contentOf q → p ≡ q
+unfolding contentOf
+same-numbers p q l m e =
+    let n : p .n ≡ q .n = ap (λ (v : List ℕ). getD v 0 0) e in
+    let k : p .k ≡ q .k = ap (λ (v : List ℕ). getD v 1 0) e in
+    let a : p .a ≡ q .a = ap (λ (v : List ℕ). getD v 2 0) e in
+    let t : p .t ≡ q .t = ap (λ (v : List ℕ). getD v 3 0) e in
+    let s : p .s ≡ q .s = two-bytes (p .s) (q .s) l m (ap (drop 4) e) in
+    ap (λ (v : ℕ). made v (p .k) (p .a) (p .t) (p .s)) n
+    ∙ ap (λ (v : ℕ). made (q .n) v (p .a) (p .t) (p .s)) k
+    ∙ ap (λ (v : ℕ). made (q .n) (q .k) v (p .t) (p .s)) a
+    ∙ ap₂ (λ (v w : ℕ). made (q .n) (q .k) (q .a) v w) t s
+  where
+    made : ℕ → ℕ → ℕ → ℕ → ℕ → Numbers
+    made n k a t s = record { n = n; k = k; a = a; t = t; s = s }
+
+pub cut-for-wanted : (p : Numbers) (f : ℕ) → CutForWanted p f
+unfolding contentOf
+cut-for-wanted p f q g x r u b y cut e = (
+  same-numbers q p (cut-accepted q g r x (cut .lent) (cut .not-refused) .short) (acc p f u b y e .short)
+      (sym (found .field-01) ∙ is-headed p f u b y e .field-01),
+  ap (λ (v : List ℕ). getD v 0 0) (sym (found .field-02) ∙ is-headed p f u b y e .field-02),
+)
+  where
+    found : Headed (profileOf q) (record { 0 = g }) r b
+    found = rw (cut-is q g x r b cut) (headed-cut q g r x (cut .lent) (cut .not-refused))
+
+-- Demand 3, whole.
+pub demand-3 : Demand3
+demand-3 = record {
+  places = demand-3-places;
+  walk = demand-3-walk;
+  plan = demand-3-plan;
+  fits = fits;
+  one-column = one-column;
+  rebuild = demand-3-rebuild;
+  same-strips = same-strips;
+  same-bundle = same-bundle;
+  same-column = same-column;
+  cut-for-wanted = cut-for-wanted;
+  same-answer = same-answer;
+  write = demand-3-write;
+  cut-passes = cut-passes;
+  cut-column = cut-column;
+  cut-rebuilds = cut-rebuilds;
+  whole-bundle = whole-bundle;
+}

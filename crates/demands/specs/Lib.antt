@@ -3,3 +3,4 @@ pub mod Encoding
 pub mod Plan
 pub mod Rebuild
 pub mod Program
+pub mod Demand3

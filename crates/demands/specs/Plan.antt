@@ -2,7 +2,7 @@
 -- steps in document 01 list, in that order: distinct places, none on the dead drive. Their number is the one the plan,
 -- where not refused, answers with, and it equals the formula there.'
 --
--- PlannedPlaces p f qs : the places qs are distinct, none is on f, and their number is the formula's
+-- PlannedPlaces p f qs : the places qs are distinct places of the array, none is on f, and their number is the formula's
 -- Demand3Places        : so they are over any walk that goes over each candidate once
 -- Demand3Walk          : document 01's walk is one such, and `planned` is the plan over it
 -- NamedPlaces p f x    : what planning the rebuild of node f into x leaves and answers
@@ -22,9 +22,12 @@ use Rattle.document.specs.declared.Node.{Node}
 use Rattle.document.specs.declared.Place.{Place}
 use Rattle.document.specs.Refusals.{answerNumber, answerValue}
 use Rattle.document.specs.Profile.{Accepted, profileOf}
+use Rattle.document.specs.Places.{Within}
 use Rattle.document.specs.Plan.{Walk, Complete, walkOf, planOver, planned, priceOf, planBytes, planOf}
 
 pub record PlannedPlaces (p : Profile) (f : Node) (qs : List Place) : Type 0 where
+  -- 'Nodes and rows count from 0.'
+  pub within : Each (Within p) qs
   -- 'distinct places'
   pub distinct : Distinct qs
   -- 'none on the dead drive'

@@ -11,8 +11,8 @@
 -- NotRefused p f r b y    : a rebuild of node f from the bundle b, into y, is not refused
 -- RebuiltColumn p f r b y : some encoded array has the strips of b, and the rebuilt column is that of each such array
 --
--- The statements, shown in proofs/Demand3.antt, the last in proofs/Whole.antt, under the name beside each (the first two
--- over a walk w: FitsOver p f w, OneColumnOver p f w):
+-- The statements, shown in proofs/Demand3.antt, the last two in proofs/Whole.antt, under the name beside each (the first
+-- two over a walk w: FitsOver p f w, OneColumnOver p f w). Demand3.antt puts them together:
 -- Fits                  : any bytes at the planned places stand in some encoded array              fits
 -- OneColumn             : encoded arrays alike at the planned places have the same lost column     one-column
 -- Demand3Write          : writing a bundle that is not refused                                     demand-3-write
@@ -24,6 +24,7 @@
 -- CutPasses             : a bundle cut for the wanted numbers is not refused                       cut-passes
 -- CutColumn             : the column rebuilt from a bundle cut from any stored array               cut-column
 -- CutRebuilds           : from an encoded array, the rebuild gives the lost column back            cut-rebuilds
+-- CutForWanted          : a bundle cut for other numbers than the wanted ones is refused           cut-for-wanted
 -- WholeBundle           : what is not refused is the bundle cut from any array with its strips     whole-bundle
 --
 -- planned p f are the planned places, stripOf p x q is the strip at the place q of the array x, stripIn p b i the strip i
@@ -160,7 +161,7 @@ module _ (p : Numbers) (f : ℕ) where
 
   -- 'Take any two stored arrays alike at the planned places, whatever they hold elsewhere: rebuilds from bundles cut
   -- from them, where not refused, write the same column, whatever scenarios they are for and whatever the buffers lent
-  -- for writing held.' Bundles cut for another profile or node than the wanted ones get 6 or 7.
+  -- for writing held.'
   abbrev pub SameColumn : Type 0
   SameColumn =
       (x y : List ℕ) → AlikeAt wanted plan x y
@@ -196,6 +197,12 @@ module _ (p : Numbers) (f : ℕ) where
   CutRebuilds =
       (x : List ℕ) (r u : Recording) (b y : List ℕ) → CutFrom p f x r b → EncodedArray wanted x → NotRefused p f u b y
       → rebuildOf p f u b y .1 ≡ columnIn wanted x f
+
+  -- A bundle cut for any numbers q and node g, and not refused: they are the wanted ones.
+  abbrev pub CutForWanted : Type 0
+  CutForWanted =
+      (q : Numbers) (g : ℕ) (x : List ℕ) (r u : Recording) (b y : List ℕ) → CutFrom q g x r b → NotRefused p f u b y
+      → (q ≡ p) × (g ≡ f)
 
   -- A bundle that is not refused is the one that is cut, for the wanted recording, from any array with its strips:
   -- refusals 6 to 9 leave no byte but the strips free.

@@ -20,10 +20,13 @@
 -- Demand1Plan p f x                   : so does planning
 -- Demand1Write p f r x b              : so does the writing of a bundle
 -- Demand1Rebuild p f r b y            : so does a rebuild
--- Shown for all numbers and bytes in proofs/Demand1.antt: demand-1-encode, demand-1-plan, demand-1-write,
--- demand-1-rebuild.
+-- Demand1                             : the four, for all numbers and bytes. Shown in proofs/Demand1.antt: demand-1
 --
--- That every entry point answers: it has no `requires`, and each function of the store is proved to end without a fault.
+-- The statements here and in the other files are about definitions. An entry point's promise, without any `requires`, is
+-- that its answer and what it leaves in the buffers lent for writing are its definition's: `encode` is encodeOf, `plan`
+-- planOf, `write_bundle` writeOf, `rebuild` rebuildOf, the small program programOf, and an exported function is the same
+-- with its answer as one number. That every entry point answers: each function of the store is proved to end without a
+-- fault.
 use mathlib.Core.Path.{_≡_}
 use mathlib.Core.Logic.{_↔_, _≢_, _⊎_}
 use mathlib.Core.List.{List, [], _∷_, _++_, map}
@@ -140,7 +143,7 @@ pub record Formed (p : Profile) (f : Node) (b : List ℕ) : Type 0 where
 pub record Headed (p : Profile) (f : Node) (r : Recording) (b : List ℕ) : Type 0 where
   -- 'n, k, A, t, S in two bytes'
   pub field-01 : slice b 3 6 ≡ p .n ∷ p .k ∷ p .a ∷ p .t ∷ twoBytes (p .s)
-  -- 'lost node, scenario number in four bytes': by its type below 2^32
+  -- 'lost node, scenario number in four bytes': a number above them counts by its lowest 32 bits; no call has one
   pub field-02 : slice b 12 5 ≡ f .0 ∷ fourBytes (r .scenario)
 
 -- 'node, row, scenario number, strip': what the field 03 of strip i says of it, past its tag and length.
@@ -200,3 +203,10 @@ pub record Demand1Rebuild (p : Numbers) (f : ℕ) (r : Recording) (b y : List �
       (0 ∷ 0 ∷ 0 ∷ 0 ∷ 0 ∷ 0 ∷ 0 ∷ (listed P (λ i. i) ++ listed P (λ i. i)))
   pub decided : Decided (rebuildTests p f r b y) (rebuildSentences p f r b y)
   pub refuses : RefusesExactly (rebuildSentences p f r b y) y (rebuildOf p f r b y)
+
+-- 'Any bytes, any numbers, any time'
+pub record Demand1 : Type 1 where
+  pub encode : (p : Numbers) (d x : List ℕ) → Demand1Encode p d x
+  pub plan : (p : Numbers) (f : ℕ) (x : List ℕ) → Demand1Plan p f x
+  pub write : (p : Numbers) (f : ℕ) (r : Recording) (x b : List ℕ) → Demand1Write p f r x b
+  pub rebuild : (p : Numbers) (f : ℕ) (r : Recording) (b y : List ℕ) → Demand1Rebuild p f r b y

@@ -1,0 +1,48 @@
+-- Demand 3, whole: each clause and the statement that says it. Shown in proofs/Whole.antt: demand-3.
+--
+-- Demand3 : demand 3
+use Prim.Native.Nat.{ℕ}
+use Rattle.document.specs.declared.Numbers.{Numbers}
+use Rattle.demands.specs.Plan.{Demand3Places, Demand3Walk, Demand3Plan}
+use Rattle.demands.specs.Rebuild.{
+  Fits,
+  OneColumn,
+  Demand3Write,
+  Demand3Rebuild,
+  SameStrips,
+  SameColumn,
+  SameBundle,
+  SameAnswer,
+  CutPasses,
+  CutColumn,
+  CutRebuilds,
+  CutForWanted,
+  WholeBundle,
+}
+
+pub record Demand3 : Type 0 where
+  -- 'the plan names the places that its steps in document 01 list, in that order: distinct places, none on the dead
+  -- drive. Their number is the one the plan, where not refused, answers with, and it equals the formula there.'
+  pub places : Demand3Places
+  pub walk : Demand3Walk
+  pub plan : Demand3Plan
+  -- 'Whatever bytes stand at those places, some encoded array has them'
+  pub fits : Fits
+  -- 'and the rebuilt column is the one every such array has on that drive.'
+  pub one-column : OneColumn
+  pub rebuild : (p : Numbers) (f : ℕ) → Demand3Rebuild p f
+  -- 'No byte elsewhere, old or new, changes the rebuild.'
+  pub same-strips : (p : Numbers) (f : ℕ) → SameStrips p f
+  pub same-bundle : (p : Numbers) (f : ℕ) → SameBundle p f
+  -- 'Take any two stored arrays alike at the planned places, ..: rebuilds from bundles cut from them, where not refused,
+  -- write the same column, ..'
+  pub same-column : (p : Numbers) (f : ℕ) → SameColumn p f
+  pub cut-for-wanted : (p : Numbers) (f : ℕ) → CutForWanted p f
+  -- 'Any two rebuilds given equal bundles, the same wanted numbers and buffers of equal length give the same answer'
+  pub same-answer : (p : Numbers) (f : ℕ) → SameAnswer p f
+  -- what a bundle is, written and read
+  pub write : Demand3Write
+  pub cut-passes : (p : Numbers) (f : ℕ) → CutPasses p f
+  pub cut-column : (p : Numbers) (f : ℕ) → CutColumn p f
+  pub cut-rebuilds : (p : Numbers) (f : ℕ) → CutRebuilds p f
+  pub whole-bundle : (p : Numbers) (f : ℕ) → WholeBundle p f
