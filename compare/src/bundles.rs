@@ -1,8 +1,8 @@
 //! The kinds about writing a bundle: the sample, accepted and refused calls.
 
 use crate::calls::{
-    every_lost_node, every_shape, numbers_in_every_order, random_profile, random_scenario, replace_number, small_like,
-    small_numbers, Call, Tally,
+    every_lost_node, every_shape, random_profile, random_scenario, replace_number, small_and_refused_numbers, small_like,
+    Call, Tally,
 };
 use crate::code::{self, Profile, Refusal};
 use crate::download::Wanted;
@@ -96,8 +96,7 @@ pub fn bundles(random: &mut Random) -> Outcome {
     let mut tally = Tally::default();
     every_bundle(&mut tally, random)?;
     long_strips(&mut tally, random)?;
-    every_small_number(&mut tally, random)?;
-    refused_in_every_order(&mut tally, random)?;
+    every_number(&mut tally, random)?;
     mixed_calls(&mut tally, random)?;
     tally.counts("bundles written", "bundles refused", &[1, 2, 3, 4, 5])
 }
@@ -155,17 +154,9 @@ fn every_length(wanted: Wanted, tally: &mut Tally, random: &mut Random) -> Resul
     Ok(())
 }
 
-/// All small numbers.
-fn every_small_number(tally: &mut Tally, random: &mut Random) -> Result<(), String> {
-    for (profile, lost) in small_numbers(random) {
-        every_length(Wanted { profile, lost, scenario: random_scenario(random) }, tally, random)?;
-    }
-    Ok(())
-}
-
-/// Every mixture of refusals 1, 2, 3, 4 and 5, also of none.
-fn refused_in_every_order(tally: &mut Tally, random: &mut Random) -> Result<(), String> {
-    for (profile, lost) in numbers_in_every_order() {
+/// All small numbers, and every mixture of refusals 1, 2, 3, 4 and 5, also of none.
+fn every_number(tally: &mut Tally, random: &mut Random) -> Result<(), String> {
+    for (profile, lost) in small_and_refused_numbers(random) {
         every_length(Wanted { profile, lost, scenario: random_scenario(random) }, tally, random)?;
     }
     Ok(())

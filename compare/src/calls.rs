@@ -97,7 +97,7 @@ pub fn random_profile(n: usize, k: usize, rows: usize, random: &mut Random) -> P
 }
 
 /// A profile and a lost node: all small n, k and A; then all small t, S and lost nodes of accepted n, k and A.
-pub fn small_numbers(random: &mut Random) -> Vec<(Profile, usize)> {
+fn small_numbers(random: &mut Random) -> Vec<(Profile, usize)> {
     let mut numbers = Vec::new();
     for n in 0..=30 {
         for k in 0..=30 {
@@ -114,7 +114,7 @@ pub fn small_numbers(random: &mut Random) -> Vec<(Profile, usize)> {
 }
 
 /// A profile and a lost node: every mixture of refusals 1, 2, 3 and 4, also of none, with each way to come to each.
-pub fn numbers_in_every_order() -> Vec<(Profile, usize)> {
+fn numbers_in_every_order() -> Vec<(Profile, usize)> {
     let mut shapes = vec![(4, 2, 2), (4, 1, 2), (6, 3, 3), (8, 4, 4), (24, 20, 4)];
     shapes.extend(refused_nodes_and_rows());
     let mut numbers = Vec::new();
@@ -128,6 +128,11 @@ pub fn numbers_in_every_order() -> Vec<(Profile, usize)> {
         }
     }
     numbers
+}
+
+/// A profile and a lost node: all of the two lists above.
+pub fn small_and_refused_numbers(random: &mut Random) -> Vec<(Profile, usize)> {
+    [small_numbers(random), numbers_in_every_order()].concat()
 }
 
 /// A number near the edges of what is accepted, or one that a narrower type would cut down to such a number.

@@ -1,6 +1,6 @@
 //! The kinds about the rebuild plan: samples, lists of places, accepted and refused calls.
 
-use crate::calls::{numbers_in_every_order, random_profile, replace_number, small_numbers, Call, Tally};
+use crate::calls::{random_profile, replace_number, small_and_refused_numbers, Call, Tally};
 use crate::code::{self, Place, Profile, Refusal};
 use crate::library::{self, Answer, Lent};
 use crate::random::Random;
@@ -130,8 +130,7 @@ fn check_places(case: &Case, given: &[u8]) -> Result<(), String> {
 pub fn plans(random: &mut Random) -> Outcome {
     let mut tally = Tally::default();
     every_plan(&mut tally, random)?;
-    every_small_number(&mut tally, random)?;
-    refused_in_every_order(&mut tally, random)?;
+    every_number(&mut tally, random)?;
     mixed_calls(&mut tally, random)?;
     tally.counts("plans accepted", "plans refused", &[1, 2, 3, 4, 5])
 }
@@ -160,19 +159,9 @@ fn every_length(profile: &Profile) -> [usize; 4] {
     [needed, needed - 1, 0, if accepted { needed + 1 } else { 80 }]
 }
 
-/// All small numbers.
-fn every_small_number(tally: &mut Tally, random: &mut Random) -> Result<(), String> {
-    for (profile, lost) in small_numbers(random) {
-        for length in every_length(&profile) {
-            tally.compare(Case::new(profile, lost, length, random), random)?;
-        }
-    }
-    Ok(())
-}
-
-/// Every mixture of refusals 1, 2, 3, 4 and 5, also of none.
-fn refused_in_every_order(tally: &mut Tally, random: &mut Random) -> Result<(), String> {
-    for (profile, lost) in numbers_in_every_order() {
+/// All small numbers, and every mixture of refusals 1, 2, 3, 4 and 5, also of none.
+fn every_number(tally: &mut Tally, random: &mut Random) -> Result<(), String> {
+    for (profile, lost) in small_and_refused_numbers(random) {
         for length in every_length(&profile) {
             tally.compare(Case::new(profile, lost, length, random), random)?;
         }

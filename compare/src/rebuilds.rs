@@ -2,8 +2,8 @@
 
 use crate::bundles::{SAMPLE, SAMPLE_WANTED};
 use crate::calls::{
-    every_lost_node, every_shape, numbers_in_every_order, random_profile, random_scenario, replace_number, small_like,
-    small_numbers, Call, Tally,
+    every_lost_node, every_shape, random_profile, random_scenario, replace_number, small_and_refused_numbers, small_like,
+    Call, Tally,
 };
 use crate::code::{self, Profile, Refusal};
 use crate::download::{joined, Wanted};
@@ -129,8 +129,7 @@ pub fn rebuilds(random: &mut Random) -> Outcome {
     other_nodes_and_scenarios(&mut tally, random)?;
     other_profiles(&mut tally, random)?;
     some_bytes_changed(&mut tally, random)?;
-    every_small_number(&mut tally, random)?;
-    refused_in_every_order(&mut tally, random)?;
+    every_number(&mut tally, random)?;
     mixed_calls(&mut tally, random)?;
     tally.counts("rebuilds accepted", "rebuilds refused", &[1, 2, 3, 4, 5, 6, 7, 8, 9])
 }
@@ -381,17 +380,9 @@ fn every_length(wanted: Wanted, tally: &mut Tally, random: &mut Random) -> Resul
     Ok(())
 }
 
-/// All small numbers.
-fn every_small_number(tally: &mut Tally, random: &mut Random) -> Result<(), String> {
-    for (profile, lost) in small_numbers(random) {
-        every_length(Wanted { profile, lost, scenario: random_scenario(random) }, tally, random)?;
-    }
-    Ok(())
-}
-
-/// Every mixture of refusals 1, 2, 3, 4 and 5, also of none, with bundles that are in order and others.
-fn refused_in_every_order(tally: &mut Tally, random: &mut Random) -> Result<(), String> {
-    for (profile, lost) in numbers_in_every_order() {
+/// All small numbers, and every mixture of refusals 1, 2, 3, 4 and 5, also of none, with bundles that are in order and others.
+fn every_number(tally: &mut Tally, random: &mut Random) -> Result<(), String> {
+    for (profile, lost) in small_and_refused_numbers(random) {
         every_length(Wanted { profile, lost, scenario: random_scenario(random) }, tally, random)?;
     }
     Ok(())

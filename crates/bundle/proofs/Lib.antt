@@ -3,4 +3,4 @@ pub mod Answers
 pub mod Fit
 pub mod Found
 pub mod Compared
-pub mod Checked
+pub mod ReaderAnswers

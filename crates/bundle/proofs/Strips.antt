@@ -28,10 +28,7 @@ use Rattle.document.specs.Bundle.{
 use Rattle.document.proofs.Bounds.{room}
 use Rattle.document.proofs.PlanBytes.{bytes-length, bytes-place}
 use Rattle.document.proofs.Bundle.{content-length, fields-length}
-
--- the place that bytes 2i and 2i + 1 name
-abbrev pub placeAt : List ℕ → ℕ → Place
-placeAt bytes i = place (getD bytes (2 * i) 0) (getD bytes (2 * i + 1) 0)
+use Rattle.bundle.specs.Reader.{placeAt}
 
 -- a buffer with the bytes of the places qs written at its start
 module _ {d e : List ℕ} {end : ℕ} (qs : List Place) (w : Wrote d 0 (planBytes qs) end e) where

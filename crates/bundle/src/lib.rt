@@ -1,7 +1,7 @@
 // The download bundle: written from a stored array, and compared by a reader with what is wanted (reader.rt).
 ghost use mathlib.Core.Path.{_≡_};
 ghost use Prim.Native.Nat.{_+_, _*_, _<_, _≤_};
-ghost use lib.ListN.{length, getD};
+ghost use lib.ListN.{length};
 ghost use Rattle.lists.specs.Put.{Wrote};
 ghost use Rattle.fields.specs.Fields.{openingLength, fieldOf};
 ghost use Rattle.document.specs.Profile.{Accepted};
@@ -11,6 +11,7 @@ ghost use Rattle.document.specs.Bundle.{recordingBytes, recordingLength, profil
 ghost use Rattle.document.specs.Bundle.{lostContent, lostContentLength, stripContent, stripOf, headLength};
 ghost use Rattle.document.specs.Bundle.{stripFieldLength, stripFields, bundleLength, bundleOf, writeOf};
 ghost use Rattle.document.specs.Bundle.{stripFieldStart};
+ghost use Rattle.bundle.specs.Reader.{placeAt};
 
 mod reader;
 
@@ -70,7 +71,7 @@ fn bundle_length(p: Profile) -> usize
 // Place i of a plan's bytes.
 fn place_at(places: &[u8], i: usize) -> Place
     requires { ⌜ 2 * i + 2 ≤ length (now places) ⌝ }
-    ensures { λ r. ⌜ r ≡ place (getD (now (places .entry)) (2 * i) 0) (getD (now (places .entry)) (2 * i + 1) 0) ⌝ }
+    ensures { λ r. ⌜ r ≡ placeAt (now (places .entry)) i ⌝ }
 {
     Place {
         node: Node(places[2 * i] as usize),

@@ -129,7 +129,6 @@ module _ (p : Profile) (acc : Accepted p) (f : Node) (h : f .0 < p .n) (w : Walk
     given-at i b r l = ap (λ (m : ℕ). byte (getD (v m) b 0)) (position p acc f h w sound i r)
 
     found : (d : List ℕ) × (length d ≡ k * A * S) × Alike p (f .0) s (byteAt p (encoded p d)) given
-        × ((e : ℕ) → e < length d → getD d e 0 < 256)
     found =
         some-array p acc (f .0) h s (choice p acc f h w sound) (outside p acc f h w sound)
         (shape p acc f h w sound) given

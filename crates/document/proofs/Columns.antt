@@ -1,5 +1,5 @@
 -- What the algebra shows of a rebuild, for document 01's arrays: lists of bytes, a strip at each place.
-use mathlib.Core.Path.{_≡_, refl, sym, ap, _∙_}
+use mathlib.Core.Path.{_≡_, sym, ap, _∙_}
 use mathlib.Core.Logic.{_≢_, _⊎_}
 use mathlib.Core.List.{List}
 use Prim.Native.Nat.{ℕ, _+_, _*_, _/_, _%_, _≤_, _<_}
@@ -26,24 +26,13 @@ use Rattle.document.specs.declared.Place.{Place}
 use Rattle.document.specs.Profile.{Accepted}
 use Rattle.document.specs.Places.{place, Within}
 use Rattle.document.specs.Bytes.{bytes, Byte, byte, number}
-use Rattle.document.specs.Encoding.{
-  start,
-  byteAt,
-  baseAt,
-  constantOf,
-  coupledAt,
-  laidOut,
-  columnOf,
-  Stored,
-  encoded,
-}
+use Rattle.document.specs.Encoding.{start, byteAt, baseAt, constantOf, coupledAt, laidOut, columnOf, encoded}
 use Rattle.document.specs.Bundle.{stripFieldLength, stripOf, stripFieldStart, stripIn}
 use Rattle.document.specs.Rebuild.{firstStrip}
 use Rattle.document.proofs.Bytes.{number-byte, number-zero, number-one, points-distinct}
 use Rattle.document.proofs.Bounds.{room, A>0, n-is, strip-within}
 use Rattle.document.proofs.Arrays.{
   laid-length,
-  laid-small,
   laid-byte,
   coupled-diagonal,
   coupled-upper,
@@ -176,9 +165,8 @@ module _ (p : Profile) where
       pub some-array : ((q : ℕ) → q < k → s q / A ≢ f / A) → (n / A ≤ k) ⊎ ((q : ℕ) → q < k → s q % A ≡ f % A)
           → (x : ℕ → Place → Byte)
           → (d : List ℕ) × (length d ≡ k * A * S) × Alike f s (byteAt p (encoded p d)) x
-          × ((e : ℕ) → e < length d → getD d e 0 < 256)
       unfolding encode symbols baseAt
-      some-array outside shape x = (d, laid-length p k base, same, laid-small p k base)
+      some-array outside shape x = (d, laid-length p k base, same)
         where
           fit : (b : ℕ) → Fitting bytes coupled-code f s (array x b)
           fit b =
@@ -228,24 +216,12 @@ module _ (p : Profile) where
           sym
           (slice-listed x (start p q) S within _ (λ b l. number-byte _ (small (start p q + b) (omega arith))))
 
-    -- arrays with the same bytes at a place have the same strip there
-    pub same-strip : (x y : List ℕ) → Stored p x → Stored p y → (q : Place) → Within p q
-        → ((b : ℕ) → b < S → byteAt p x b q ≡ byteAt p y b q) → stripOf p x q ≡ stripOf p y q
-    same-strip x y X Y q w same =
-        strip-bytes x (X .size) (X .bytes-only) q w ∙ listed-ext S _ _ (λ b l. ap number (same b l))
-        ∙ sym (strip-bytes y (Y .size) (Y .bytes-only) q w)
-
   -- the bytes at a place, by the strip there
   pub strip-byte : (x : List ℕ) (q : Place) (v : List ℕ) → stripOf p x q ≡ v → (b : ℕ) → b < S
       → byteAt p x b q ≡ byte (getD v b 0)
   unfolding stripOf byteAt
   strip-byte x q v e b l =
       ap byte (sym (slice-at x (start p q) S b l) ∙ ap (λ (strip : List ℕ). getD strip b 0) e)
-
-  -- arrays with the same strip at a place have the same bytes there
-  pub same-bytes : (x y : List ℕ) (q : Place) → stripOf p x q ≡ stripOf p y q → (b : ℕ) → b < S
-      → byteAt p x b q ≡ byteAt p y b q
-  same-bytes x y q e b l = strip-byte x q (stripOf p y q) e b l ∙ sym (strip-byte y q (stripOf p y q) refl b l)
 
   -- strip i of a bundle, where a rebuild reads it
   pub given-strip : (b : List ℕ) (i o : ℕ) → o < S

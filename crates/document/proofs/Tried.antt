@@ -1,4 +1,4 @@
--- The laws of `tried`: two lists of tests in a row, a line for each of n things, and what an answer tells.
+-- The laws of `tried`: one test, a line for each of n things, and what an answer tells.
 use mathlib.Core.Path.{_≡_, refl, sym, ap, _∙_}
 use mathlib.Core.Bool.{Bool, true, false}
 use mathlib.Core.List.{List, [], _∷_, _++_}
@@ -21,18 +21,6 @@ module _ {ℓ} {X : Type ℓ} (refuse : Refusal → X) (test : Test) (tests : Li
   tried-not e = simp e
 
 module _ {ℓ} {X : Type ℓ} (refuse : Refusal → X) where
-  pub tried-append : (xs ys : List Test) (x : X) → tried (xs ++ ys) refuse x ≡ tried xs refuse (tried ys refuse x)
-  unfolding tried
-  tried-append [] ys x = refl
-  tried-append (test ∷ xs) ys x = go (test .holds) refl (tried-append xs ys x)
-    where
-      go : (b : Bool) → test .holds ≡ b → tried (xs ++ ys) refuse x ≡ tried xs refuse (tried ys refuse x)
-          → tried (test ∷ (xs ++ ys)) refuse x ≡ tried (test ∷ xs) refuse (tried ys refuse x)
-      go true e rest =
-          tried-holds refuse test (xs ++ ys) x e ∙ sym (tried-holds refuse test xs (tried ys refuse x) e)
-      go false e rest =
-          tried-not refuse test (xs ++ ys) x e ∙ rest ∙ sym (tried-not refuse test xs (tried ys refuse x) e)
-
   -- a line for each number below n: the first that holds is given, or else the rest is tried
   pub tried-first : (n : ℕ) (T : ℕ → Test) (rest : List Test) (x : X) (i : ℕ) → i < n
       → ((e : ℕ) → e < i → T e .holds ≡ false) → T i .holds ≡ true

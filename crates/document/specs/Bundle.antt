@@ -17,7 +17,7 @@
 -- writeTests p f x b     : the refusals of writing a bundle, in their order
 -- writeOf p f r x b      : cutting a bundle from x, written into b: the answer, and what b holds then
 --
--- stripFieldStart p i         : where the field 03 of strip i starts, from 0
+-- stripFieldStart p i    : where the field 03 of strip i starts, from 0
 -- placeIn p b i          : the place that strip i of the bundle b has
 -- recordingIn p b i      : what its recording is identified by
 -- stripIn p b i          : the strip itself

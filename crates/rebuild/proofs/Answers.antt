@@ -24,7 +24,7 @@ use Rattle.document.proofs.Bounds.{room}
 use Rattle.document.proofs.Tried.{tried-refused, tried-passed, first-failed}
 use Rattle.document.proofs.Bundle.{formed-length}
 use Rattle.rebuild.specs.Folded.{StripsFit}
-use Rattle.rebuild.specs.Checked.{fromBundle}
+use Rattle.rebuild.specs.FromBundle.{fromBundle}
 
 -- ---- from the bundle on
 module _ (p : Profile) (f : Node) (r : Recording) (b : List ℕ) {answer : Answer}

@@ -12,15 +12,14 @@ use lib.ListN.{length, getD, take, length-append, List·getD-append}
 use lib.Seq.{take-suc, take-at, length-take-le, getD-append-add}
 use Rattle.lists.specs.Listed.{listed}
 use Rattle.lists.proofs.Listed.{listed-length, listed-at, listed-ext, listed-add}
-use Rattle.algebra.specs.Coupling.{factor}
 use Rattle.document.specs.declared.Profile.{Profile}
 use Rattle.document.specs.declared.Node.{Node}
 use Rattle.document.specs.declared.Place.{Place}
 use Rattle.document.specs.Places.{partnerOf}
 use Rattle.document.specs.Bytes.{bytes, Byte, number}
-use Rattle.document.specs.Encoding.{constantOf}
 use Rattle.document.specs.Plan.{isOffDiagonal, rowAt}
 use Rattle.rebuild.specs.Folded.{foldedAt, foldedOf}
+use Rattle.rebuild.specs.Rows.{factorAt}
 
 module _ (p : Profile) (f : Node) (x : ℕ → Place → Byte) where
   open Profile p using (a as A, s as S)
@@ -29,7 +28,7 @@ module _ (p : Profile) (f : Node) (x : ℕ → Place → Byte) where
   abbrev pair : ℕ → ℕ → Byte
   pair b j =
       let q : Place = rowAt A f j in
-      bytes .add (x b q) (bytes .mul (factor bytes (constantOf p) (f .0 % A) (j % A)) (x b (partnerOf A q)))
+      bytes .add (x b q) (bytes .mul (factorAt p (f .0 % A) (j % A)) (x b (partnerOf A q)))
 
   abbrev at-index : List ℕ → ℕ → ℕ
   at-index js e = number (foldedAt p f x (e % S) (getD js (e / S) 0))

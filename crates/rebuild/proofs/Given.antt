@@ -9,7 +9,6 @@ use native.Mathlib.Omega.{arith}
 use lib.ListN.{length, getD, take, drop, length-append}
 use lib.Seq.{getD-append-add}
 use Rattle.lists.specs.Each.{Distinct}
-use Rattle.algebra.specs.Coupling.{factor}
 use Rattle.gf256.specs.Field as G
 use Rattle.strips.specs.Strips.{stripAt, addedScaled}
 use Rattle.strips.proofs.Added.{added-strips}
@@ -18,8 +17,7 @@ use Rattle.document.specs.declared.Node.{Node}
 use Rattle.document.specs.declared.Place.{Place}
 use Rattle.document.specs.Profile.{Accepted}
 use Rattle.document.specs.Places.{place, partnerOf}
-use Rattle.document.specs.Bytes.{bytes, Byte, byte, number}
-use Rattle.document.specs.Encoding.{constantOf}
+use Rattle.document.specs.Bytes.{Byte, byte, number}
 use Rattle.document.specs.Plan.{isOffDiagonal, rowAt, walkOf, nodesOver, planned, plannedAt}
 use Rattle.document.specs.Rebuild.{positionOf, givenAt}
 use Rattle.document.proofs.Bytes.{number-byte, number-add, number-mul}
@@ -31,6 +29,7 @@ use Rattle.plan.specs.Steps.{placesAt, placesOf}
 use Rattle.plan.proofs.Places.{single, pair, split-places}
 use Rattle.plan.proofs.Walked.{plan-places}
 use Rattle.rebuild.specs.Folded.{foldedOf, NodeAt}
+use Rattle.rebuild.specs.Rows.{factorAt}
 use Rattle.rebuild.proofs.Folded.{folded-single, folded-pair, folded-one}
 
 -- a node off the diagonal has another local column
@@ -99,7 +98,7 @@ module _ (p : Profile) (acc : Accepted p) (f : Node) where
       q = rowAt A f j
 
       abbrev c : Byte
-      c = factor bytes (constantOf p) (f .0 % A) (j % A)
+      c = factorAt p (f .0 % A) (j % A)
 
       pub single-folded : isOffDiagonal A f j ≡ false → stripAt src (first + m * stride) S ≡ foldedOf p f x (j ∷ [])
       unfolding stripAt

@@ -12,15 +12,14 @@ use Prim.Native.Nat.{ℕ, _+_, _*_, _/_, _%_, _≤_, _<_}
 use lib.ListN.{length, getD}
 use Rattle.lists.specs.Listed.{listed}
 use Rattle.algebra.specs.Field.{Field}
-use Rattle.algebra.specs.Coupling.{factor}
 use Rattle.document.specs.declared.Profile.{Profile}
 use Rattle.document.specs.declared.Node.{Node}
 use Rattle.document.specs.declared.Place.{Place}
 use Rattle.document.specs.Places.{localColumn, partnerOf}
 use Rattle.document.specs.Bytes.{bytes, Byte, number}
-use Rattle.document.specs.Encoding.{constantOf}
 use Rattle.document.specs.Plan.{isOffDiagonal, rowAt, planned, plannedAt}
 use Rattle.plan.specs.Steps.{placesAt}
+use Rattle.rebuild.specs.Rows.{factorAt}
 
 infixl 65 _⊕_
 infixl 70 _⊗_
@@ -34,7 +33,7 @@ module _ (p : Profile) (f : Node) where
     unfoldable pub foldedAt : ℕ → ℕ → Byte
     foldedAt b j =
         cond (isOffDiagonal A f j)
-        (x b (rowAt A f j) ⊕ factor bytes (constantOf p) (localColumn A f) (j % A) ⊗ x b (partnerOf A (rowAt A f j)))
+        (x b (rowAt A f j) ⊕ factorAt p (localColumn A f) (j % A) ⊗ x b (partnerOf A (rowAt A f j)))
         (x b (rowAt A f j))
 
     unfoldable pub foldedOf : List ℕ → List ℕ

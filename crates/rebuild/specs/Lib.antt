@@ -1,4 +1,4 @@
-pub mod Folded
 pub mod Rows
+pub mod Folded
 pub mod Column
-pub mod Checked
+pub mod FromBundle

@@ -3,8 +3,8 @@
 --
 -- factorAt p i l              : the factor of row i at local column l
 -- memberAt p f i              : node i of f's group
--- determinantAt p f l                : the determinant of row c at local column l and its partner
--- determinantsOf p f nodes           : for each chosen node the determinant at its local column
+-- determinantAt p f l         : the determinant of row c at local column l and its partner
+-- determinantsOf p f nodes    : for each chosen node the determinant at its local column
 -- ownScaleAt p f i            : by what row c of the other node i of f's group is multiplied
 -- scaleAt p f i               : by what row c is multiplied for row i
 -- coefficientAt p f nodes i q : by what folded strip q is multiplied for row i

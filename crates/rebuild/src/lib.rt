@@ -9,11 +9,10 @@ ghost use Rattle.algebra.specs.Coupling.{factor};
 ghost use Rattle.strips.specs.Strips.{addedScaled};
 ghost use Rattle.document.specs.Bytes.{bytes, number};
 ghost use Rattle.document.specs.Profile.{Accepted};
-ghost use Rattle.document.specs.Encoding.{constantOf};
 ghost use Rattle.document.specs.Plan.{walkOf, chosenOver, nodesOver, planned};
 ghost use Rattle.document.specs.Rebuild.{givenAt, rebuiltOf, rebuildOf};
 ghost use Rattle.plan.specs.Steps.{placesAt};
-ghost use Rattle.rebuild.specs.Checked.{fromBundle};
+ghost use Rattle.rebuild.specs.FromBundle.{fromBundle};
 ghost use Rattle.rebuild.specs.Folded.{foldedOf, StripsFit, NodeAt};
 ghost use Rattle.gf256.specs.Field.{quotientsOf, NoZero};
 ghost use Rattle.coefficients.specs.Weights.{Different, Outside, denominatorsOf, weightsOf};
@@ -35,7 +34,7 @@ use plan::Step;
 fn add_partner(x: &mut [u8], strip: &[u8], p: Profile, c: usize, l: usize)
     requires { ⌜ Accepted p × (c ≢ l) × (length (now strip) ≡ length (now x)) ⌝ }
     ensures { λ _. ⌜ now (x .exit)
-        ≡ addedScaled (number (factor bytes (constantOf p) c l)) 0 (now (strip .entry)) (now (x .entry)) ⌝ }
+        ≡ addedScaled (number (factorAt p c l)) 0 (now (strip .entry)) (now (x .entry)) ⌝ }
 {
     if c < l {
         strips::add(x, 0, strip);

@@ -19,7 +19,8 @@ use Rattle.document.proofs.Chosen.{plan-within}
 use Rattle.document.proofs.PlanBytes.{bytes-length}
 use Rattle.document.proofs.Price.{planned-price, price-bound}
 use Rattle.document.proofs.Bundle.{fieldAt, fields-next}
-use Rattle.bundle.proofs.Strips.{placeAt, place-written, places-written, next-fits}
+use Rattle.bundle.specs.Reader.{placeAt}
+use Rattle.bundle.proofs.Strips.{place-written, places-written, next-fits}
 use Rattle.bundle.proofs.put_strips.Statement.{statement}
 use Rattle.bundle.proofs.put_strips.Tie as tie
 

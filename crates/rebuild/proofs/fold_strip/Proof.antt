@@ -6,16 +6,15 @@ use Prim.Native.Nat.{ℕ, _+_, _-_, _*_, _%_, _≤_, _<_}
 use native.Mathlib.Omega.{arith}
 use borrow.Author.Needs.{needs}
 use lib.ListN.{length, getD, take, drop}
-use Rattle.algebra.specs.Coupling.{factor}
 use Rattle.strips.specs.Strips.{stripAt, addedScaled}
 use Rattle.strips.proofs.Strip.{strip-length, strip-part}
-use Rattle.document.specs.Bytes.{bytes, number}
-use Rattle.document.specs.Encoding.{constantOf}
+use Rattle.document.specs.Bytes.{number}
 use Rattle.document.specs.Plan.{isOffDiagonal, planned}
 use Rattle.document.specs.Rebuild.{givenAt}
 use Rattle.document.proofs.Price.{planned-price}
 use Rattle.plan.specs.Steps.{inStep, placesAt}
 use Rattle.rebuild.specs.Folded.{foldedOf}
+use Rattle.rebuild.specs.Rows.{factorAt}
 use Rattle.rebuild.proofs.Given.{one-place, two-places, off-column, single-folded, pair-folded}
 use Rattle.rebuild.proofs.fold_strip.Statement.{statement}
 use Rattle.rebuild.proofs.fold_strip.Tie as tie
@@ -76,7 +75,7 @@ module _ (t : tie.Then1) where
       ∙ sym (ap length (copied copy) ∙ strip-length (s .args .src .now) _ (s .args .p .s))
 
   folded : {z : List ℕ}
-      → z ≡ addedScaled (number (factor bytes (constantOf (s .args .p)) (s .args .f .0 % s .args .p .a)
+      → z ≡ addedScaled (number (factorAt (s .args .p) (s .args .f .0 % s .args .p .a)
       (s .args .j % s .args .p .a))) 0 (take (from + s .args .p .s - from) (drop from (s .args .src .now)))
       (copy .copy .last .0)
       → z ≡ foldedOf (s .args .p) (s .args .f)

@@ -12,7 +12,7 @@ use Rattle.document.proofs.Price.{planned-price}
 use Rattle.bundle.specs.Reader.{HasFields}
 use Rattle.bundle.proofs.Fit.{head-room}
 use Rattle.bundle.proofs.Compared.{fits-whole, formed-whole}
-use Rattle.bundle.proofs.Checked.{form-refused, head-refused, place-refused, stale-refused, passed}
+use Rattle.bundle.proofs.ReaderAnswers.{form-refused, head-refused, place-refused, stale-refused, passed}
 use Rattle.bundle.proofs.reader.check.Statement.{statement}
 use Rattle.bundle.proofs.reader.check.Tie as tie
 
