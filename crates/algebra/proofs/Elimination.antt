@@ -1,6 +1,6 @@
--- A square matrix has an inverse, or a vector other than zero that it takes to zero (`gauss`). One kind of row step
--- does all: to each row is added a multiple of one row. The lemmas hold of matrices that are given only below m, so
--- that a program that works in place can cite them.
+-- A matrix of m rows and w columns has a left inverse, or a vector other than zero that it takes to zero (`gauss`). One
+-- kind of row step does all: to each row is added a multiple of one row. The lemmas hold of matrices that are given
+-- only below m and w, so that a program that works in place can cite them.
 use mathlib.Core.Path.{_≡_, refl, sym, ap₂, _∙_}
 use mathlib.Core.Logic.{_≢_, _⊎_, inl, inr}
 use Prim.Native.Nat.{ℕ, zero, suc, _+_, _-_, _≤_, _<_}
@@ -39,13 +39,12 @@ use Rattle.algebra.proofs.Field.{
   inv-ne-zero,
 }
 use Rattle.algebra.proofs.Pick.{pick-yes, pick-no}
-use Rattle.algebra.proofs.Sum.{sum-one}
+use Rattle.algebra.proofs.Sum.{sum-zero, sum-one}
 use Rattle.algebra.proofs.Square.{
   dot-ext,
-  dot-comm,
   dot-combine,
   dot-add-right,
-  dot-none,
+  dot-zeros,
   dot-unit,
   unit-at,
   unit-off,
@@ -59,17 +58,18 @@ module _ (K : Field) where
   infixl 70 _⊗_
   open Field K using (carrier as F, 𝟘, 𝟙, add as _⊕_, mul as _⊗_, inv, eq?, mul-inv, one-ne-zero)
 
-  -- No step is taken yet.
-  pub start : (m : ℕ) (M : Matrix K) → Reached K m M M (unit K)
-  start m M = record { forth = λ b v h i l. h i l ∙ sym (same b i l); back = λ b v h i l. h i l ∙ same b i l }
+  -- No step is taken yet; T is the unit matrix as far as it is given.
+  pub start : (m w : ℕ) (M T : Matrix K) → ((i j : ℕ) → i < m → j < m → T i j ≡ unit K i j) → Reached K m w M M T
+  start m w M T e = record { forth = λ b v h i l. h i l ∙ sym (same b i l); back = λ b v h i l. h i l ∙ same b i l }
     where
-      same : (b : ℕ → F) (i : ℕ) → i < m → dot K m (unit K i) b ≡ b i
-      same b i l = dot-unit K m i (unit K i) b l (unit-at K i) (λ j k n. unit-off K i j n)
+      same : (b : ℕ → F) (i : ℕ) → i < m → dot K m (T i) b ≡ b i
+      same b i l =
+          dot-unit K m i (T i) b l (e i i l l ∙ unit-at K i) (λ j k n. e i j l k ∙ unit-off K i j n)
 
   -- A step adds the multiples of what row p gives.
-  step-times : (m p : ℕ) (c : ℕ → F) (M N : Matrix K) → Step K m p c M N
-      → (v : ℕ → F) (i : ℕ) → i < m → times K m N v i ≡ times K m M v i ⊕ c i ⊗ times K m M v p
-  step-times m p c M N s v i l = dot-ext K m (λ j h. s i j l h) (λ j h. refl) ∙ dot-combine K m (M i) (M p) v (c i)
+  step-times : (m w p : ℕ) (c : ℕ → F) (M N : Matrix K) → Step K m w p c M N
+      → (v : ℕ → F) (i : ℕ) → i < m → times K w N v i ≡ times K w M v i ⊕ c i ⊗ times K w M v p
+  step-times m w p c M N s v i l = dot-ext K w (λ j h. s i j l h) (λ j h. refl) ∙ dot-combine K w (M i) (M p) v (c i)
 
   -- The sum of two equations that have been through a step.
   residual : (d e x y c : F) → d ⊕ c ⊗ e ≡ x ⊕ c ⊗ y → (d ⊕ x) ⊕ c ⊗ (e ⊕ y) ≡ 𝟘
@@ -92,43 +92,40 @@ module _ (K : Field) where
       pivot = mul-eq-zero K (𝟙 ⊕ c p) (d p ⊕ x p) kept (factored (d p ⊕ x p) (c p) ∙ rest p l)
 
   -- One step more, by which row p is not lost.
-  pub reached-step : (m p : ℕ) (c : ℕ → F) (M N T N′ T′ : Matrix K) → p < m → 𝟙 ⊕ c p ≢ 𝟘
-      → Step K m p c N N′ → Step K m p c T T′ → Reached K m M N T → Reached K m M N′ T′
-  reached-step m p c M N T N′ T′ l kept s t R = record { forth = forth; back = back }
+  pub reached-step : (m w p : ℕ) (c : ℕ → F) (M N T N′ T′ : Matrix K) → p < m → 𝟙 ⊕ c p ≢ 𝟘
+      → Step K m w p c N N′ → Step K m m p c T T′ → Reached K m w M N T → Reached K m w M N′ T′
+  reached-step m w p c M N T N′ T′ l kept s t R = record { forth = forth; back = back }
     where
-      forth : (b v : ℕ → F) → Solves K m M b v → Solves K m N′ (times K m T′ b) v
+      forth : (b v : ℕ → F) → Solves K m w M b v → Solves K m w N′ (times K m T′ b) v
       forth b v h i k =
-          step-times m p c N N′ s v i k ∙ ap₂ (λ x y. x ⊕ c i ⊗ y) (R .forth b v h i k) (R .forth b v h p l)
-          ∙ sym (step-times m p c T T′ t b i k)
+          step-times m w p c N N′ s v i k ∙ ap₂ (λ x y. x ⊕ c i ⊗ y) (R .forth b v h i k) (R .forth b v h p l)
+          ∙ sym (step-times m m p c T T′ t b i k)
 
-      back : (b v : ℕ → F) → Solves K m N′ (times K m T′ b) v → Solves K m M b v
+      back : (b v : ℕ → F) → Solves K m w N′ (times K m T′ b) v → Solves K m w M b v
       back b v h = R .back b v
-          (undo m p c (times K m N v) (times K m T b) l kept
-          (λ i k. sym (step-times m p c N N′ s v i k) ∙ h i k ∙ step-times m p c T T′ t b i k))
+          (undo m p c (times K w N v) (times K m T b) l kept
+          (λ i k. sym (step-times m w p c N N′ s v i k) ∙ h i k ∙ step-times m m p c T T′ t b i k))
 
   -- All columns are done: the steps made the inverse.
-  pub finish : (m : ℕ) (M N T : Matrix K) → Reached K m M N T → Reduced K m m N → Inverse K m M T
-  finish m M N T R U = record {
-    unique = λ b v h j l. sym (at v j l) ∙ R .forth b v h j l;
-    solves = λ b. R .back b (times K m T b) (at (times K m T b));
+  pub finish : (m w : ℕ) (M N T : Matrix K) → w ≤ m → Reached K m w M N T → Reduced K w m N → Inverse K m w M T
+  finish m w M N T q R U = record {
+    unique = λ b v h j l. sym (at v j l) ∙ R .forth b v h j (omega arith);
+    solves = λ e b. R .back b (times K m T b) (λ i l. at (times K m T b) i (omega arith));
   }
     where
-      at : (u : ℕ → F) (i : ℕ) → i < m → dot K m (N i) u ≡ u i
-      at u i l = dot-unit K m i (N i) u l (U .one i l) (λ j k n. U .off i j l k (λ e. n (sym e)))
+      at : (u : ℕ → F) (i : ℕ) → i < w → dot K w (N i) u ≡ u i
+      at u i l = dot-unit K w i (N i) u l (U .one i l) (λ j k n. U .off i j (omega arith) k (λ e. n (sym e)))
 
   -- No pivot in column r: the column above r, with 1 at r, is taken to zero.
-  module _ (r m : ℕ) (M : Matrix K) (l : r < m) (U : Reduced K r m M) (z : (i : ℕ) → i < m → r ≤ i → M i r ≡ 𝟘) where
+  module _ (r m w : ℕ) (M : Matrix K) (l : r < w) (U : Reduced K r m M)
+      (z : (i : ℕ) → i < m → r ≤ i → M i r ≡ 𝟘) where
     -- Column r above row r, and zero from there on.
     abbrev column : ℕ → F
     column j = pick (decLt j r) (M j r) 𝟘
 
-    -- It is column r, which is zero from row r on.
-    column-is : (i : ℕ) → i < m → column i ≡ M i r
-    column-is i k = go (decLt i r)
-      where
-        go : (d : Dec (i < r)) → pick d (M i r) 𝟘 ≡ M i r
-        go (yes h) = refl
-        go (no h) = sym (z i k (omega arith))
+    -- It is zero from r on.
+    column-under : (j : ℕ) → r ≤ j → column j ≡ 𝟘
+    column-under j h = pick-no (decLt j r) _ _ (λ k. omega arith)
 
     -- Row i takes nothing from it off the diagonal.
     applied : (i j : ℕ) → i < m → j ≢ i → M i j ⊗ column j ≡ 𝟘
@@ -138,56 +135,59 @@ module _ (K : Field) where
         go (yes q) = rw (U .off i j k q (λ e. n (sym e)), zero-mul)
         go (no q) = mul-zero K (M i j)
 
-    -- So the matrix takes it to column r.
-    column-dot : (i : ℕ) → i < m → dot K m (M i) column ≡ M i r
+    -- So the matrix takes it to column r, which is zero from row r on.
+    column-dot : (i : ℕ) → i < m → dot K w (M i) column ≡ M i r
     unfolding dot
-    column-dot i k = sum-one K m i (λ j. M i j ⊗ column j) k (λ j h n. applied i j k n) ∙ go (decLt i r)
+    column-dot i k = go (decLt i r)
       where
-        go : Dec (i < r) → M i i ⊗ column i ≡ M i r
-        go (yes h) = rw (U .one i h, one-mul, column-is i k)
-        go (no h) = rw (column-is i k, z i k (omega arith), mul-zero)
+        none : r ≤ i → (j : ℕ) → Dec (j ≡ i) → M i j ⊗ column j ≡ 𝟘
+        none h j (yes e) = rw (column-under j (omega arith), mul-zero)
+        none h j (no n) = applied i j k n
+
+        go : Dec (i < r) → dot K w (M i) column ≡ M i r
+        go (yes h) =
+            sum-one K w i (λ j. M i j ⊗ column j) (omega arith) (λ j q n. applied i j k n)
+            ∙ rw (U .one i h, one-mul) (pick-yes (decLt i r) _ _ h)
+        go (no h) = sum-zero K w (λ j q. none (omega arith) j (ℕ-discrete j i)) ∙ sym (z i k (omega arith))
 
     -- The vector with 1 at r besides, which the matrix takes to column r twice.
     abbrev vector : ℕ → F
     vector j = unit K r j ⊕ column j
 
     -- In characteristic two that is zero.
-    kills-vector : Solves K m M (λ i. 𝟘) vector
+    kills-vector : Solves K m w M (λ i. 𝟘) vector
     kills-vector i k =
-        dot-add-right K m (M i) (unit K r) column ∙ ap₂ _⊕_ (dot-pick K m r (M i) l) (column-dot i k)
+        dot-add-right K w (M i) (unit K r) column ∙ ap₂ _⊕_ (dot-pick K w r (M i) l) (column-dot i k)
         ∙ add-self K (M i r)
 
     -- So the matrix has a kernel.
-    stuck : Kernel K m M
+    stuck : Kernel K m w M
     stuck = record { vector = vector; at = r; below = l; nonzero = nonzero; kills = kills-vector }
       where
         nonzero : unit K r r ⊕ column r ≢ 𝟘
-        nonzero = rw (unit-at K r, column-is r l, z r l (omega arith), add-zero) one-ne-zero
+        nonzero = rw (unit-at K r, column-under r (omega arith), add-zero) one-ne-zero
 
     -- Any vector with these values is taken to zero: the column above r, 1 at r, 0 below.
-    pub stuck-by : (v : ℕ → F) → ((j : ℕ) → j < r → v j ≡ M j r) → v r ≡ 𝟙 → ((j : ℕ) → r < j → j < m → v j ≡ 𝟘)
-        → Solves K m M (λ i. 𝟘) v
+    pub stuck-by : (v : ℕ → F) → ((j : ℕ) → j < r → v j ≡ M j r) → v r ≡ 𝟙 → ((j : ℕ) → r < j → j < w → v j ≡ 𝟘)
+        → Solves K m w M (λ i. 𝟘) v
     stuck-by v above one under i k =
-        dot-ext K m (λ j h. refl) (λ j h. same j h (decLt j r) (ℕ-discrete j r)) ∙ kills-vector i k
+        dot-ext K w (λ j h. refl) (λ j h. same j h (decLt j r) (ℕ-discrete j r)) ∙ kills-vector i k
       where
-        same : (j : ℕ) → j < m → (d : Dec (j < r)) (e : Dec (j ≡ r)) → v j ≡ pick e 𝟙 𝟘 ⊕ pick d (M j r) 𝟘
+        same : (j : ℕ) → j < w → (d : Dec (j < r)) (e : Dec (j ≡ r)) → v j ≡ pick e 𝟙 𝟘 ⊕ pick d (M j r) 𝟘
         same j h (yes d) (yes e) = absurd (omega arith)
         same j h (yes d) (no e) = above j d ∙ sym (zero-add K (M j r))
         same j h (no d) (yes e) = rw e one ∙ sym (add-zero K 𝟙)
         same j h (no d) (no e) = under j (omega arith) h ∙ sym (add-zero K 𝟘)
 
   -- What a matrix that was reached takes to zero, the first one does.
-  pub reached-kernel : (m : ℕ) (M N T : Matrix K) → Reached K m M N T → Kernel K m N → Kernel K m M
-  reached-kernel m M N T R k = record {
+  pub reached-kernel : (m w : ℕ) (M N T : Matrix K) → Reached K m w M N T → Kernel K m w N → Kernel K m w M
+  reached-kernel m w M N T R k = record {
     vector = k .vector;
     at = k .at;
     below = k .below;
     nonzero = k .nonzero;
-    kills = R .back (λ i. 𝟘) (k .vector) (λ i l. k .kills i l ∙ sym (zeros (T i)));
+    kills = R .back (λ i. 𝟘) (k .vector) (λ i l. k .kills i l ∙ sym (dot-zeros K m (T i)));
   }
-    where
-      zeros : (r : ℕ → F) → dot K m r (λ j. 𝟘) ≡ 𝟘
-      zeros r = dot-comm K m r (λ j. 𝟘) ∙ dot-none K m (λ j. 𝟘) r (λ j l. refl)
 
   module _ (r : ℕ) (M : Matrix K) where
     -- The coefficient of the pivot's own row.
@@ -209,21 +209,21 @@ module _ (K : Field) where
   expand a b = simp ring
 
   -- The pivot of column r is not zero: one step makes the column a unit column.
-  module _ (r m : ℕ) (M : Matrix K) (l : r < m) (U : Reduced K r m M) (n : M r r ≢ 𝟘)
-      (N : Matrix K) (s : Step K m r (coefficient K r M) M N) where
+  module _ (r m w : ℕ) (M : Matrix K) (l : r < m) (t : r < w) (U : Reduced K r m M) (n : M r r ≢ 𝟘)
+      (N : Matrix K) (s : Step K m w r (coefficient K r M) M N) where
     -- A column that is done stays as it is.
     done : (i j : ℕ) → i < m → j < r → N i j ≡ M i j
     done i j k h = s i j k (omega arith) ∙ rw (U .off r j l h (omega arith), mul-zero, add-zero)
 
     -- The pivot becomes 1.
     pivot-one : N r r ≡ 𝟙
-    pivot-one = s r r l l ∙ rw (coefficient-at r M) (expand (M r r) (inv (M r r)) ∙ mul-inv (M r r) n)
+    pivot-one = s r r l t ∙ rw (coefficient-at r M) (expand (M r r) (inv (M r r)) ∙ mul-inv (M r r) n)
 
     -- The rest of its column becomes 0.
     pivot-off : (i : ℕ) → i < m → i ≢ r → N i r ≡ 𝟘
     pivot-off i k d =
         let whole : inv (M r r) ⊗ M r r ≡ 𝟙 = mul-comm K (inv (M r r)) (M r r) ∙ mul-inv (M r r) n in
-        s i r k l ∙ rw (coefficient-off r M i d, mul-assoc, whole, mul-one, add-self)
+        s i r k t ∙ rw (coefficient-off r M i d, mul-assoc, whole, mul-one, add-self)
 
     -- One more column is done, and those before it stay so.
     pub cleared : Reduced K (suc r) m N
@@ -238,10 +238,10 @@ module _ (K : Field) where
         off i j k h d (no q) = done i j k (omega arith) ∙ U .off i j k (omega arith) d
 
   -- The pivot is zero: a row p below r with an entry in column r is added to row r.
-  module _ (r m p : ℕ) (M N : Matrix K) (h : r < p) (l : p < m) (s : Step K m p (unit K r) M N) where
+  module _ (r m w p : ℕ) (M N : Matrix K) (h : r < p) (l : p < m) (t : r < w) (s : Step K m w p (unit K r) M N) where
     -- The pivot is then that entry.
     pub lift-pivot : M r r ≡ 𝟘 → M p r ≢ 𝟘 → N r r ≢ 𝟘
-    lift-pivot e n = rw (s r r (omega arith) (omega arith), e, unit-at K r, one-mul, zero-add) n
+    lift-pivot e n = rw (s r r (omega arith) t, e, unit-at K r, one-mul, zero-add) n
 
     -- The columns that are done stay so.
     pub lift-reduced : Reduced K r m M → Reduced K r m N
@@ -258,67 +258,108 @@ module _ (K : Field) where
   lift-kept r p h = rw (unit-off K r p (omega arith), add-zero) one-ne-zero
 
   -- What elimination comes to.
-  abbrev pub Outcome : ℕ → Matrix K → Type 0
-  Outcome m M = Kernel K m M ⊎ ((T : Matrix K) × Inverse K m M T)
+  abbrev pub Outcome : ℕ → ℕ → Matrix K → Type 0
+  Outcome m w M = Kernel K m w M ⊎ ((T : Matrix K) × Inverse K m w M T)
 
-  module _ (m : ℕ) (M : Matrix K) where
+  module _ (m w : ℕ) (M : Matrix K) where
     -- The matrix after a step.
     added : ℕ → (ℕ → F) → Matrix K → Matrix K
     added p c N i j = N i j ⊕ c i ⊗ N p j
 
-    -- It comes from N by that step.
-    stepped : (p : ℕ) (c : ℕ → F) (N : Matrix K) → Step K m p c N (added p c N)
+    -- It comes from N by that step, however many columns are given.
+    stepped : (n p : ℕ) (c : ℕ → F) (N : Matrix K) → Step K m n p c N (added p c N)
     unfolding added
-    stepped p c N i j k h = refl
+    stepped n p c N i j k h = refl
 
     -- From every state with r columns done the elimination comes to an outcome.
     abbrev Solved : ℕ → Type 0
-    Solved r = (N T : Matrix K) → Reached K m M N T → Reduced K r m N → Outcome m M
+    Solved r = r ≤ m → (N T : Matrix K) → Reached K m w M N T → Reduced K r m N → Outcome m w M
 
     -- The state after a step.
     reached-added : (p : ℕ) (c : ℕ → F) (N T : Matrix K) → p < m → 𝟙 ⊕ c p ≢ 𝟘
-        → Reached K m M N T → Reached K m M (added p c N) (added p c T)
-    reached-added p c N T l d = reached-step m p c M N T (added p c N) (added p c T) l d (stepped p c N) (stepped p c T)
+        → Reached K m w M N T → Reached K m w M (added p c N) (added p c T)
+    reached-added p c N T l d =
+        reached-step m w p c M N T (added p c N) (added p c T) l d (stepped w p c N) (stepped m p c T)
 
     -- With a pivot, one step leads to the next column.
-    pivoted : (r : ℕ) → r < m → Solved (suc r)
-        → (N T : Matrix K) → Reached K m M N T → Reduced K r m N → N r r ≢ 𝟘 → Outcome m M
-    pivoted r l next N T R U d =
+    pivoted : (r : ℕ) → r < m → r < w → Solved (suc r)
+        → (N T : Matrix K) → Reached K m w M N T → Reduced K r m N → N r r ≢ 𝟘 → Outcome m w M
+    pivoted r l t next N T R U d =
         let c : ℕ → F = coefficient K r N in
-        next (added r c N) (added r c T) (reached-added r c N T l (kept r N d) R)
-        (cleared r m N l U d (added r c N) (stepped r c N))
+        next (omega arith) (added r c N) (added r c T) (reached-added r c N T l (kept r N d) R)
+        (cleared r m w N l t U d (added r c N) (stepped w r c N))
 
     -- Without one, a lower row lends its entry; where none has any, the matrix has a kernel.
-    next-column : (n r : ℕ) → suc n + r ≡ m → Solved (suc r) → Solved r
-    next-column n r e next N T R U = go (eq? (N r r) 𝟘) (find K (suc n) (λ i. N (i + r) r))
+    next-column : (r : ℕ) → r < w → Solved (suc r) → Solved r
+    next-column r t next g N T R U = go (find K (m - r) (λ i. N (i + r) r))
       where
-        below : ((i : ℕ) → i < suc n → N (i + r) r ≡ 𝟘) → (i : ℕ) → i < m → r ≤ i → N i r ≡ 𝟘
+        below : ((i : ℕ) → i < m - r → N (i + r) r ≡ 𝟘) → (i : ℕ) → i < m → r ≤ i → N i r ≡ 𝟘
         below h i k q = let s : i - r + r ≡ i = omega arith in rw s at (h (i - r) (omega arith))
 
-        lifted : (q : ℕ) → r < q → q < m → N r r ≡ 𝟘 → N q r ≢ 𝟘 → Outcome m M
+        lifted : (q : ℕ) → r < q → q < m → N r r ≡ 𝟘 → N q r ≢ 𝟘 → Outcome m w M
         lifted q h l z d =
             let N′ : Matrix K = added q (unit K r) N in
-            let s : Step K m q (unit K r) N N′ = stepped q (unit K r) N in
-            pivoted r (omega arith) next N′ (added q (unit K r) T)
+            let s : Step K m w q (unit K r) N N′ = stepped w q (unit K r) N in
+            pivoted r (omega arith) t next N′ (added q (unit K r) T)
             (reached-added q (unit K r) N T l (lift-kept r q h) R)
-            (lift-reduced r m q N N′ h l s U) (lift-pivot r m q N N′ h l s z d)
+            (lift-reduced r m w q N N′ h l t s U) (lift-pivot r m w q N N′ h l t s z d)
 
-        go : Dec (N r r ≡ 𝟘) → Found K (suc n) (λ i. N (i + r) r) → Outcome m M
-        go (no d) f = pivoted r (omega arith) next N T R U d
-        go (yes z) (inr h) = inl (reached-kernel m M N T R (stuck r m N (omega arith) U (below h)))
-        go (yes z) (inl (p, b, d)) = go′ (ℕ-discrete p 0)
+        go : Found K (m - r) (λ i. N (i + r) r) → Outcome m w M
+        go (inr h) = inl (reached-kernel m w M N T R (stuck r m w N t U (below h)))
+        go (inl (p, b, d)) = lend (eq? (N r r) 𝟘) (ℕ-discrete p 0)
           where
-            go′ : Dec (p ≡ 0) → Outcome m M
-            go′ (yes w) = let s : p + r ≡ r = omega arith in absurd (d (rw s z))
-            go′ (no w) = lifted (p + r) (omega arith) (omega arith) z d
+            lend : Dec (N r r ≡ 𝟘) → Dec (p ≡ 0) → Outcome m w M
+            lend (no n) e = pivoted r (omega arith) t next N T R U n
+            lend (yes z) (yes e) = let s : p + r ≡ r = omega arith in absurd (d (rw s z))
+            lend (yes z) (no e) = lifted (p + r) (omega arith) (omega arith) z d
 
     -- Column by column, with n still to do.
-    eliminate : (n r : ℕ) → n + r ≡ m → Solved r
-    eliminate zero r e N T R U = let q : r ≡ m = omega arith in inr (T, finish m M N T R (rw q at U))
-    eliminate (suc n) r e N T R U = next-column n r e (eliminate n (suc r) (omega arith)) N T R U
+    eliminate : (n r : ℕ) → n + r ≡ w → Solved r
+    eliminate zero r e g N T R U =
+        let q : r ≡ w = omega arith in inr (T, finish m w M N T (omega arith) R (rw q at U))
+    eliminate (suc n) r e g N T R U = next-column r (omega arith) (eliminate n (suc r) (omega arith)) g N T R U
 
-    -- A square matrix has an inverse, or a vector other than zero that it takes to zero.
-    pub gauss : Outcome m M
+    -- A matrix has a left inverse, or a vector other than zero that it takes to zero.
+    pub gauss : Outcome m w M
     gauss =
-        eliminate m 0 (omega arith) M (unit K) (start m M)
+        eliminate w 0 (omega arith) (omega arith) M (unit K) (start m w M (unit K) (λ i j h k. refl))
         record { one = λ j h. absurd (omega arith); off = λ i j k h d. absurd (omega arith) }
+
+  -- It has not both.
+  pub no-kernel : {m w : ℕ} {M T : Matrix K} → Inverse K m w M T → Kernel K m w M → ⊥
+  no-kernel {m} {w} {M} {T} I k =
+      k .nonzero (I .unique (λ i. 𝟘) (k .vector) (k .kills) (k .at) (k .below) ∙ dot-zeros K m (T (k .at)))
+
+  -- A square matrix has one inverse.
+  pub inverse-one : {m : ℕ} {M T T′ : Matrix K} → Inverse K m m M T → Inverse K m m M T′
+      → (i j : ℕ) → i < m → j < m → T i j ≡ T′ i j
+  inverse-one {m} {M} {T} {T′} I I′ i j h k =
+      sym (dot-pick K m j (T i) k)
+      ∙ I′ .unique (unit K j) (times K m T (unit K j)) (I .solves refl (unit K j)) i h
+      ∙ dot-pick K m j (T′ i) k
+
+  -- The kernel is that of any matrix with the same entries.
+  pub kernel-ext : {m w : ℕ} {M N : Matrix K} → ((i j : ℕ) → i < m → j < w → M i j ≡ N i j)
+      → Kernel K m w M → Kernel K m w N
+  kernel-ext {m} {w} e k = record {
+    vector = k .vector;
+    at = k .at;
+    below = k .below;
+    nonzero = k .nonzero;
+    kills = λ i l. dot-ext K w (λ j h. sym (e i j l h)) (λ j h. refl) ∙ k .kills i l;
+  }
+
+  -- The inverse is that of any matrix with the same entries, and any matrix with its entries is it too.
+  pub inverse-ext : {m w : ℕ} {M N T S : Matrix K} → ((i j : ℕ) → i < m → j < w → M i j ≡ N i j)
+      → ((i j : ℕ) → i < w → j < m → T i j ≡ S i j) → Inverse K m w M T → Inverse K m w N S
+  inverse-ext {m} {w} {M} {N} {T} {S} e f I = record {
+    unique = λ b v h j l. I .unique b v (λ i k. left v i k ∙ h i k) j l ∙ right b j l;
+    solves = λ q b i k.
+        dot-ext K w (λ j h. sym (e i j k h)) (λ j h. sym (right b j h)) ∙ I .solves q b i k;
+  }
+    where
+      left : (v : ℕ → F) (i : ℕ) → i < m → times K w M v i ≡ times K w N v i
+      left v i k = dot-ext K w (λ j h. e i j k h) (λ j h. refl)
+
+      right : (b : ℕ → F) (i : ℕ) → i < w → times K m T b i ≡ times K m S b i
+      right b i k = dot-ext K m (λ j h. f i j k h) (λ j h. refl)

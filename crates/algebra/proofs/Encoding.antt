@@ -1,19 +1,24 @@
--- Encoding: what is stored for some data is an encoded array, and every encoded array is stored for some data.
-use mathlib.Core.Path.{_≡_, refl, sym, ap, _∙_}
+-- Encoding: what is stored for some data is an encoded array, and every encoded array is stored for some data. Each
+-- stored symbol is the sum of the data symbols, each times what is stored for the data that are 𝟙 there alone.
+use mathlib.Core.Path.{_≡_, refl, sym, ap, ap₂, _∙_}
 use mathlib.Core.Logic.{_≢_}
 use Prim.Native.Nat.{ℕ, _*_, _%_, _≤_, _<_}
 use native.Mathlib.Nat.{div-lt-iff-lt-mul, mod-lt}
+use native.Mathlib.Decide.{ℕ-discrete}
 use native.Mathlib.Omega.{arith}
 use lib.Arith.{digits-lt}
 use Rattle.algebra.specs.Field.{Field}
 use Rattle.algebra.specs.Sum.{sum}
+use Rattle.algebra.specs.Square.{dot}
 use Rattle.algebra.specs.Polynomial.{Distinct}
 use Rattle.algebra.specs.Weight.{weight}
 use Rattle.algebra.specs.RowCode.{Choice, Codeword}
-use Rattle.algebra.specs.Coupling.{Array, partnerNode, factor}
-use Rattle.algebra.specs.Encoding.{symbols, encode, Code, Encoded}
-use Rattle.algebra.proofs.Field.{mul-zero, mul-one}
-use Rattle.algebra.proofs.Sum.{sum-ext, sum-one}
+use Rattle.algebra.specs.Coupling.{Array, partnerNode, stored, factor}
+use Rattle.algebra.specs.Encoding.{symbols, unitSymbols, encode, Code, Encoded}
+use Rattle.algebra.proofs.Field.{mul-comm, mul-zero, zero-mul, mul-one}
+use Rattle.algebra.proofs.Sum.{sum-ext, sum-zero, sum-add, sum-scale, sum-one}
+use Rattle.algebra.proofs.Square.{dot-combine}
+use Rattle.algebra.proofs.Pick.{pick-yes, pick-no}
 use Rattle.algebra.proofs.Polynomial.{apart, poly-scale, poly-sum}
 use Rattle.algebra.proofs.Weight.{weight-poly, weight-at, weight-off}
 use Rattle.algebra.proofs.RowCode.{determined}
@@ -45,6 +50,45 @@ module _ (K : Field) (k : ℕ) (point : ℕ → K .carrier) where
       → (j : ℕ) → symbols K k point d i j ≡ symbols K k point e i j
   unfolding symbols
   symbols-ext d e i h j = sum-ext K k (λ q l. ap (λ z. z ⊗ weight K k point q (point j)) (h q l))
+
+module _ (K : Field) (k : ℕ) (point : ℕ → K .carrier) (A : ℕ) (d : Array K) where
+  infixl 65 _⊕_
+  infixl 70 _⊗_
+  open Field K using (carrier as F, add as _⊕_, mul as _⊗_)
+
+  -- A base symbol is the sum of the data symbols, each times the base symbol of the data that are 𝟙 there alone.
+  symbols-sum : (i j : ℕ) → i < A
+      → symbols K k point d i j ≡ sum K A (λ r. dot K k (λ q. unitSymbols K k point r q i j) (d r))
+  unfolding symbols unitSymbols dot
+  symbols-sum i j l =
+      sum-ext K k
+      (λ q h. mul-comm K (d i q) (weight K k point q (point j))
+      ∙ ap (λ z. z ⊗ d i q) (sym (pick-yes (ℕ-discrete i i) _ _ refl)))
+      ∙ sym
+      (sum-one K A i (λ r. dot K k (λ q. unitSymbols K k point r q i j) (d r)) l
+      (λ r h n. sum-zero K k
+      (λ q m. ap (λ z. z ⊗ d r q) (pick-no (ℕ-discrete i r) _ _ (λ e. n (sym e))) ∙ zero-mul K (d r q))))
+
+  -- So is a stored symbol, with what is stored for those data.
+  pub stored-sum : 0 < A → (θ : ℕ → ℕ → F) (i j : ℕ) → i < A
+      → stored K A θ (symbols K k point d) i j
+      ≡ sum K A (λ r. sum K k (λ q. stored K A θ (unitSymbols K k point r q) i j ⊗ d r q))
+  unfolding stored dot
+  stored-sum A>0 θ i j l =
+      ap₂ (λ x y. x ⊕ c ⊗ y) (symbols-sum i j l) (symbols-sum (j % A) (partnerNode A i j) (mod-lt j A>0))
+      ∙ sym
+      (sum-ext K A (λ r h. dot-combine K k (own r) (partner r) (d r) c)
+      ∙ sum-add K A (λ r. dot K k (own r) (d r)) (λ r. c ⊗ dot K k (partner r) (d r))
+      ∙ ap (λ x. sum K A (λ r. dot K k (own r) (d r)) ⊕ x) (sum-scale K A c (λ r. dot K k (partner r) (d r))))
+    where
+      c : F
+      c = θ i (j % A)
+
+      own : ℕ → ℕ → F
+      own r q = unitSymbols K k point r q i j
+
+      partner : ℕ → ℕ → F
+      partner r q = unitSymbols K k point r q (j % A) (partnerNode A i j)
 
 module _ (K : Field) (c : ℕ → ℕ → K .carrier) where
   infixl 70 _⊗_

@@ -45,6 +45,10 @@ module _ (K : Field) where
   unfolding dot
   dot-none m r v z = sum-zero K m (λ j l. rw (z j l, zero-mul))
 
+  -- A vector of zeros.
+  pub dot-zeros : (m : ℕ) (r : ℕ → F) → dot K m r (λ j. 𝟘) ≡ 𝟘
+  dot-zeros m r = dot-comm m r (λ j. 𝟘) ∙ dot-none m (λ j. 𝟘) r (λ j l. refl)
+
   -- A row that is 1 at i and 0 elsewhere takes the vector's entry at i.
   pub dot-unit : (m i : ℕ) (r v : ℕ → F) → i < m → r i ≡ 𝟙 → ((j : ℕ) → j < m → j ≢ i → r j ≡ 𝟘) → dot K m r v ≡ v i
   unfolding dot

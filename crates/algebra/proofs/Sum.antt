@@ -1,9 +1,11 @@
 -- Laws of finite sums.
-use mathlib.Core.Path.{_≡_, refl, ap, ap₂, _∙_}
+use mathlib.Core.Path.{_≡_, refl, sym, ap, ap₂, _∙_}
 use mathlib.Core.Logic.{_≢_}
-use Prim.Native.Nat.{ℕ, zero, suc, _<_}
+use Prim.Native.Nat.{ℕ, zero, suc, _+_, _*_, _/_, _%_, _<_}
+use native.Mathlib.Nat as N
 use native.Mathlib.Omega.{arith}
 use native.Mathlib.Decide.{ℕ-discrete}
+use lib.Arith.{digits-div, digits-mod}
 use Rattle.algebra.specs.Field.{Field}
 use Rattle.algebra.specs.Sum.{sum}
 use Rattle.algebra.proofs.Field.{ring, add-zero, zero-add}
@@ -53,3 +55,20 @@ module _ (K : Field) where
   sum-front zero f = K .add-comm 𝟘 (f 0)
   sum-front (suc n) f =
       ap (λ x. x ⊕ f (suc n)) (sum-front n f) ∙ K .add-assoc (f 0) (sum K n (λ i. f (suc i))) (f (suc n))
+
+  -- A sum in two parts.
+  pub sum-plus : (m n : ℕ) (f : ℕ → F) → sum K (m + n) f ≡ sum K m f ⊕ sum K n (λ i. f (m + i))
+  unfolding sum
+  sum-plus m zero f = rw N.add-zero (sym (add-zero K (sum K m f)))
+  sum-plus m (suc n) f =
+      rw N.add-suc (ap (λ x. x ⊕ f (m + n)) (sum-plus m n f)
+      ∙ K .add-assoc (sum K m f) (sum K n (λ i. f (m + i))) (f (m + n)))
+
+  -- A sum over A rows of k terms, row by row.
+  pub sum-grid : (A k : ℕ) (f : ℕ → ℕ → F)
+      → sum K (A * k) (λ e. f (e / k) (e % k)) ≡ sum K A (λ r. sum K k (λ q. f r q))
+  unfolding sum
+  sum-grid zero k f = rw N.zero-mul
+  sum-grid (suc A) k f =
+      rw N.suc-mul (sum-plus (A * k) k (λ e. f (e / k) (e % k))
+      ∙ ap₂ _⊕_ (sum-grid A k f) (sum-ext k (λ q l. ap₂ f (digits-div A l) (digits-mod A l))))

@@ -1,13 +1,16 @@
 -- The coupled code: each row of the base array is a word of the row code, and the rows are coupled.
 --
--- symbols K k point d    : the base array of the data d, where d i q is the symbol of row i, data node q
--- encode K c A k point d : the array stored for the data d, with the coupling constants c
--- Code K                 : the numbers of a coupled code, with what they must satisfy
--- Encoded K C x          : the array x is encoded: some base array of the code C gives it
+-- symbols K k point d       : the base array of the data d, where d i q is the symbol of row i, data node q
+-- unitSymbols K k point r q : the base array of the data that are 𝟙 at row r, node q and 𝟘 elsewhere
+-- encode K c A k point d    : the array stored for the data d, with the coupling constants c
+-- Code K                    : the numbers of a coupled code, with what they must satisfy
+-- Encoded K C x             : the array x is encoded: some base array of the code C gives it
 use mathlib.Core.Path.{_≡_}
 use mathlib.Core.Logic.{_≢_}
 use Prim.Native.Nat.{ℕ, _<_}
+use native.Mathlib.Decide.{ℕ-discrete}
 use Rattle.algebra.specs.Field.{Field}
+use Rattle.algebra.specs.Pick.{pick}
 use Rattle.algebra.specs.Sum.{sum}
 use Rattle.algebra.specs.Polynomial.{Distinct}
 use Rattle.algebra.specs.Weight.{weight}
@@ -21,6 +24,10 @@ module _ (K : Field) where
   -- Each row is the polynomial of degree below k through the data at the first k points, in Lagrange's form.
   unfoldable pub symbols : ℕ → (ℕ → F) → Array K → Array K
   symbols k point d i j = sum K k (λ q. d i q ⊗ weight K k point q (point j))
+
+  -- In row r each symbol is the weight of node q there, in the other rows all are 𝟘.
+  unfoldable pub unitSymbols : ℕ → (ℕ → F) → ℕ → ℕ → Array K
+  unitSymbols k point r q i j = pick (ℕ-discrete i r) (weight K k point q (point j)) 𝟘
 
   -- The coupled base array of the data.
   unfoldable pub encode : (ℕ → ℕ → F) → ℕ → ℕ → (ℕ → F) → Array K → Array K

@@ -1,16 +1,16 @@
--- Square matrices, given below m alone, and their elimination by row steps.
+-- Matrices, given below m rows and w columns alone, and their elimination by row steps.
 --
--- dot K m r v        : r 0 ⊗ v 0 ⊕ .. ⊕ r (m-1) ⊗ v (m-1)
--- unit K p           : the vector that is 𝟙 at p and 𝟘 elsewhere
--- Matrix K           : an entry for each row and column, row first
--- times K m M v      : the matrix M of m columns applied to the vector v
--- Solves K m M b v   : M v = b in the first m rows
--- Kernel K m M       : a vector other than zero that M takes to zero
--- Inverse K m M T    : T is the inverse of M
--- Step K m p c M N   : N comes from M by adding c i times row p to each row i
--- Reached K m M N T  : N and T come from M and the unit matrix by the same row steps
--- Reduced K r m M    : the first r columns of M are those of the unit matrix
--- coefficient K r M  : the multiples of row r by which a step makes column r that of the unit matrix
+-- dot K w r v         : r 0 ⊗ v 0 ⊕ .. ⊕ r (w-1) ⊗ v (w-1)
+-- unit K p            : the vector that is 𝟙 at p and 𝟘 elsewhere
+-- Matrix K            : an entry for each row and column, row first
+-- times K w M v       : the matrix M of w columns applied to the vector v
+-- Solves K m w M b v  : M v = b in the first m rows
+-- Kernel K m w M      : a vector other than zero that M takes to zero
+-- Inverse K m w M T   : T is a left inverse of M, and the inverse where M is square
+-- Step K m w p c M N  : N comes from M by adding c i times row p to each row i
+-- Reached K m w M N T : N and T come from M and the unit matrix of m rows by the same row steps
+-- Reduced K r m M     : the first r columns of M, of m ≥ r rows, are those of the unit matrix
+-- coefficient K r M   : the multiples of row r by which a step makes column r that of the unit matrix
 use mathlib.Core.Path.{_≡_}
 use mathlib.Core.Logic.{_≢_}
 use Prim.Native.Nat.{ℕ, _<_}
@@ -26,7 +26,7 @@ module _ (K : Field) where
 
   -- A row of coefficients applied to a vector.
   unfoldable pub dot : ℕ → (ℕ → F) → (ℕ → F) → F
-  dot m r v = sum K m (λ j. r j ⊗ v j)
+  dot w r v = sum K w (λ j. r j ⊗ v j)
 
   -- The unit vector at p; row p of the unit matrix.
   abbrev pub unit : ℕ → ℕ → F
@@ -36,35 +36,35 @@ module _ (K : Field) where
   abbrev pub Matrix : Type 0
   Matrix = ℕ → ℕ → F
 
-  -- A matrix of m columns applied to a vector.
+  -- A matrix of w columns applied to a vector.
   abbrev pub times : ℕ → Matrix → (ℕ → F) → ℕ → F
-  times m M v i = dot m (M i) v
+  times w M v i = dot w (M i) v
 
   -- v solves M v = b.
-  abbrev pub Solves : ℕ → Matrix → (ℕ → F) → (ℕ → F) → Type 0
-  Solves m M b v = (i : ℕ) → i < m → times m M v i ≡ b i
+  abbrev pub Solves : ℕ → ℕ → Matrix → (ℕ → F) → (ℕ → F) → Type 0
+  Solves m w M b v = (i : ℕ) → i < m → times w M v i ≡ b i
 
   -- `vector` is not zero, and M takes it to zero.
-  pub record Kernel (m : ℕ) (M : Matrix) : Type 0 where
+  pub record Kernel (m w : ℕ) (M : Matrix) : Type 0 where
     pub vector : ℕ → F
     pub at : ℕ
-    pub below : at < m
+    pub below : at < w
     pub nonzero : vector at ≢ 𝟘
-    pub kills : Solves m M (λ i. 𝟘) vector
+    pub kills : Solves m w M (λ i. 𝟘) vector
 
-  -- M v = b exactly for v = T b.
-  pub record Inverse (m : ℕ) (M T : Matrix) : Type 0 where
-    pub unique : (b v : ℕ → F) → Solves m M b v → (j : ℕ) → j < m → v j ≡ times m T b j
-    pub solves : (b : ℕ → F) → Solves m M b (times m T b)
+  -- M v = b only for v = T b, and for it where M is square.
+  pub record Inverse (m w : ℕ) (M T : Matrix) : Type 0 where
+    pub unique : (b v : ℕ → F) → Solves m w M b v → (j : ℕ) → j < w → v j ≡ times m T b j
+    pub solves : m ≡ w → (b : ℕ → F) → Solves m w M b (times m T b)
 
   -- To each row i is added c i times row p.
-  abbrev pub Step : ℕ → ℕ → (ℕ → F) → Matrix → Matrix → Type 0
-  Step m p c M N = (i j : ℕ) → i < m → j < m → N i j ≡ M i j ⊕ c i ⊗ M p j
+  abbrev pub Step : ℕ → ℕ → ℕ → (ℕ → F) → Matrix → Matrix → Type 0
+  Step m w p c M N = (i j : ℕ) → i < m → j < w → N i j ≡ M i j ⊕ c i ⊗ M p j
 
   -- What row steps keep: M v = b exactly where N v = T b.
-  pub record Reached (m : ℕ) (M N T : Matrix) : Type 0 where
-    pub forth : (b v : ℕ → F) → Solves m M b v → Solves m N (times m T b) v
-    pub back : (b v : ℕ → F) → Solves m N (times m T b) v → Solves m M b v
+  pub record Reached (m w : ℕ) (M N T : Matrix) : Type 0 where
+    pub forth : (b v : ℕ → F) → Solves m w M b v → Solves m w N (times m T b) v
+    pub back : (b v : ℕ → F) → Solves m w N (times m T b) v → Solves m w M b v
 
   -- The first r columns of the m rows are those of the unit matrix.
   pub record Reduced (r m : ℕ) (M : Matrix) : Type 0 where

@@ -1,3 +1,5 @@
 pub mod Lists
 pub mod Lagrange
 pub mod Combination
+pub mod Data
+pub mod Entries

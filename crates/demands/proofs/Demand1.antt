@@ -1,5 +1,5 @@
--- Demand 1: a call that tries its tests in order refuses exactly as the table says; encoding, planning, writing a bundle
--- and rebuilding do.
+-- Demand 1: a call that tries its tests in order refuses exactly as the table says; encoding, planning, writing a
+-- bundle, rebuilding, reading back and the survey do.
 use mathlib.Core.Path.{_≡_, refl, sym, ap, ap₂, _∙_}
 use mathlib.Core.Logic.{_⊎_, inl, inr}
 use mathlib.Core.Bool.{Bool, true, false, false≢true}
@@ -12,6 +12,7 @@ use lib.ListN.{length, getD}
 use Rattle.lists.specs.Listed.{listed}
 use Rattle.lists.specs.Put.{slice}
 use Rattle.fields.specs.Fields.{twoBytes, opening}
+use Rattle.ksets.specs.Sets.{sets, Rising}
 use Rattle.document.specs.declared.Numbers.{Numbers}
 use Rattle.document.specs.declared.Refusal.{Refusal}
 use Rattle.document.specs.declared.Refusal.the-variants.{
@@ -54,18 +55,25 @@ use Rattle.document.specs.Bundle.{
   fresh,
   bundleTests,
 }
+use Rattle.document.specs.declared.Surveyed.{Surveyed}
 use Rattle.document.specs.Rebuild.{rebuildTests, rebuildOf}
+use Rattle.document.specs.Reading.{listAccepted, readTests, readOf}
+use Rattle.document.specs.Survey.{resultOf, surveyTests, surveyOf, surveyAnswer}
 use Rattle.document.proofs.Decides.{
   decides-eq,
   decides-lt,
   decides-both,
   decides-not,
   decides-same,
+  decides-false,
   decides-list,
   decides-all,
   decides-place,
 }
 use Rattle.document.proofs.Accepts.{decides-shape, decides-constant, decides-strip}
+use Rattle.document.proofs.Tried.{tried-holds, tried-not, tried-map}
+use Rattle.document.proofs.Lists.{decides-list-accepted, decides-ambiguous}
+use Rattle.document.proofs.Surveys.{by-result}
 use Rattle.demands.specs.Refusals.{
   Sentence,
   FirstOf,
@@ -85,10 +93,14 @@ use Rattle.demands.specs.Refusals.{
   scenarioRead,
   bundleSentences,
   rebuildSentences,
+  readSentences,
+  surveySentences,
   Demand1Encode,
   Demand1Plan,
   Demand1Write,
   Demand1Rebuild,
+  Demand1Read,
+  Demand1Survey,
   Demand1,
 }
 
@@ -150,6 +162,44 @@ pub decided : {P : Type 0} (b : Bool) → Decides b P → ((P → ⊥) → ⊥) 
 decided true d n = d .0 refl
 decided false d n = absurd (n (λ h. false≢true (d .1 h)))
 
+-- ---- what a table says of a call that tries its tests in order, whatever it answers
+-- some refusal is the first of the table, or none is
+abbrev FirstOrNone : List Sentence → Type 1
+FirstOrNone table = ((r : Refusal) × FirstOf table r) ⊎ ((r : Refusal) → FirstOf table r → ⊥)
+
+past-first : {s : Sentence} {table : List Sentence} → (s .says → ⊥) → FirstOrNone table → FirstOrNone (s ∷ table)
+past-first n (inl (r, f)) = inl (r, later n f)
+past-first n (inr nowhere) = inr (λ r f. nowhere r (first-later n r f))
+
+pub first-or-none : {tests : List Test} {table : List Sentence} → Decided tests table
+    → ((r : Refusal) × FirstOf table r) ⊎ ((r : Refusal) → FirstOf table r → ⊥)
+first-or-none none = inr first-none
+first-or-none (line {test} {s} {tests} {table} same decides rest) =
+    go (test .holds) decides (λ n. first-or-none (rest n))
+  where
+    go : (b : Bool) → Decides b (s .says) → ((s .says → ⊥) → FirstOrNone table) → FirstOrNone (s ∷ table)
+    go true d among = inl (s .refusal, here (d .0 refl))
+    go false d among = let n : s .says → ⊥ = λ h. false≢true (d .1 h) in past-first n (among n)
+
+-- the first is given
+pub tried-stops : {X : Type 0} (refuse : Refusal → X) (x : X) {tests : List Test} {table : List Sentence}
+    → Decided tests table → (r : Refusal) → FirstOf table r → tried tests refuse x ≡ refuse r
+tried-stops refuse x none r first = absurd (first-none r first)
+tried-stops refuse x (line {test} {s} {tests} same decides rest) r (here h) =
+    tried-holds refuse test tests x (decides .1 h) ∙ ap refuse same
+tried-stops refuse x (line {test} {s} {tests} same decides rest) r (later n first) =
+    tried-not refuse test tests x (decides-false _ decides n) ∙ tried-stops refuse x (rest n) r first
+
+-- without a first, all are tried in vain
+pub tried-through : {X : Type 0} (refuse : Refusal → X) (x : X) {tests : List Test} {table : List Sentence}
+    → Decided tests table → ((r : Refusal) → FirstOf table r → ⊥) → tried tests refuse x ≡ x
+unfolding tried
+tried-through refuse x none nowhere = refl
+tried-through refuse x (line {test} {s} {tests} same decides rest) nowhere =
+    let n : s .says → ⊥ = λ h. nowhere (s .refusal) (here h) in
+    tried-not refuse test tests x (decides-false _ decides n)
+    ∙ tried-through refuse x (rest n) (λ r first. nowhere r (later n first))
+
 module _ {X : Type 0} (before : X) where
   -- an empty table, and a call that is done
   exactly-none : (v : ℕ) (after : X) → RefusesExactly [] before (Done v, after)
@@ -184,12 +234,14 @@ module _ {X : Type 0} (before : X) where
         → RefusesExactly table before (tried tests (λ r. (Refused r, before)) (Done v, after))
     unfolding tried
     tried-exactly none = exactly-none v after
-    tried-exactly (line {test} {s} {tests} {table} same decides rest) = go (test .holds) decides (tried-exactly rest)
+    tried-exactly (line {test} {s} {tests} {table} same decides rest) = go (test .holds) decides (λ n. tried-exactly (rest n))
       where
-        go : (b : Bool) → Decides b (s .says) → RefusesExactly table before (outcomeOf tests)
+        go : (b : Bool) → Decides b (s .says) → ((s .says → ⊥) → RefusesExactly table before (outcomeOf tests))
             → RefusesExactly (s ∷ table) before (outcomeOf (record { refusal = test .refusal; holds = b } ∷ tests))
         go true d R = rw same (exactly-here s table (d .0 refl))
-        go false d R = exactly-later s table (outcomeOf tests) (λ h. false≢true (d .1 h)) R
+        go false d R =
+            let n : s .says → ⊥ = λ h. false≢true (d .1 h) in
+            exactly-later s table (outcomeOf tests) n (R n)
 
     -- A call that is done tried all its tests in vain.
     pub tried-done : (tests : List Test) (w : ℕ) → outcomeOf tests .0 ≡ Done w → outcomeOf tests ≡ (Done v, after)
@@ -203,61 +255,79 @@ module _ {X : Type 0} (before : X) where
         go true e h = absurd (done-refused w (test .refusal) (sym e))
         go false e h = h e
 
-  -- A call that tries refusals 1, 2 and 3 first and is done has an accepted profile.
-  pub done-accepted : (p : Numbers) (table : List Sentence) (outcome : Answer × X) (v : ℕ)
-      → RefusesExactly (profileSentences p ++ table) before outcome → outcome .0 ≡ Done v → Accepted (profileOf p)
+  -- A call that is done is refused by no line of its table.
+  pub done-unrefused : {table : List Sentence} (outcome : Answer × X) (v : ℕ) → RefusesExactly table before outcome
+      → outcome .0 ≡ Done v → (r : Refusal) → FirstOf table r → ⊥
+  done-unrefused outcome v R e r f = done-refused v r (sym e ∙ R .given r .1 f)
+
+-- A profile is accepted if it cannot be that one of the refusals 1, 2 and 3 holds.
+accepted-by : (p : Numbers) → ((ShapeAccepted (p .n) (p .k) (p .a) → ⊥) → ⊥) → (((2 ≤ p .t) × (p .t ≤ 255) → ⊥) → ⊥)
+    → ((p .s ≡ 0) ⊎ (512 < p .s) → ⊥) → Accepted (profileOf p)
+accepted-by p shape constant strip =
+    let t : (2 ≤ p .t) × (p .t ≤ 255) = decided _ (decides-constant (p .t)) constant in
+    let s : (1 ≤ p .s) × (p .s ≤ 512) = decided _ (decides-strip (p .s)) (λ n. strip (outside (p .s) n)) in record {
+      shape = decided _ (decides-shape (p .n) (p .k) (p .a)) shape;
+      above-one = t .0;
+      one-byte = t .1;
+      some-bytes = s .0;
+      short = s .1;
+    }
+
+-- Where the profile is accepted, none of the refusals 1, 2 and 3 is the first: the first is that of the rest.
+module _ (p : Numbers) (acc : Accepted (profileOf p)) {table : List Sentence} (r : Refusal) where
+  pub accepted-later : FirstOf (profileSentences p ++ table) r → FirstOf table r
   unfolding profileSentences
-  done-accepted p table outcome v R e = record {
-    shape = shape;
-    above-one = constant .0;
-    one-byte = constant .1;
-    some-bytes = strip .0;
-    short = strip .1;
-  }
+  accepted-later first =
+      first-later (λ m. inside (p .s) m (acc .some-bytes, acc .short)) r
+      (first-later (λ m. m (acc .above-one, acc .one-byte)) r (first-later (λ m. m (acc .shape)) r first))
+
+  pub accepted-first : FirstOf table r → FirstOf (profileSentences p ++ table) r
+  unfolding profileSentences
+  accepted-first first =
+      later shape (later constant (later (λ m. inside (p .s) m (acc .some-bytes, acc .short)) first))
     where
-      unrefused : (r : Refusal) → FirstOf (profileSentences p ++ table) r → ⊥
-      unrefused r f = done-refused v r (sym e ∙ R .given r .1 f)
+      shape : (ShapeAccepted (p .n) (p .k) (p .a) → ⊥) → ⊥
+      shape m = m (acc .shape)
 
-      shape : ShapeAccepted (p .n) (p .k) (p .a)
-      shape = decided _ (decides-shape (p .n) (p .k) (p .a)) (λ n. unrefused Shape (here n))
+      constant : ((2 ≤ p .t) × (p .t ≤ 255) → ⊥) → ⊥
+      constant m = m (acc .above-one, acc .one-byte)
 
-      constant : (2 ≤ p .t) × (p .t ≤ 255)
-      constant = decided _ (decides-constant (p .t)) (λ n. unrefused Constant (later (λ m. m shape) (here n)))
-
-      strip : (1 ≤ p .s) × (p .s ≤ 512)
-      strip =
-          decided _ (decides-strip (p .s))
-          (λ n. unrefused StripLength (later (λ m. m shape) (later (λ m. m constant) (here (outside (p .s) n)))))
-
-  -- None of the refusals tried after them holds.
-  pub done-later : (p : Numbers) (table : List Sentence) (outcome : Answer × X) (v : ℕ)
-      → RefusesExactly (profileSentences p ++ table) before outcome → outcome .0 ≡ Done v
-      → (r : Refusal) → FirstOf table r → ⊥
+module _ (p : Numbers) (table : List Sentence)
+    (unrefused : (r : Refusal) → FirstOf (profileSentences p ++ table) r → ⊥) where
+  -- Where no refusal is the first of a table that begins with 1, 2 and 3, the profile is accepted,
+  pub unrefused-accepted : Accepted (profileOf p)
   unfolding profileSentences
-  done-later p table outcome v R e r f =
-      let a : Accepted (profileOf p) = done-accepted p table outcome v R e in
-      done-refused v r
-      (sym e
-      ∙ R .given r .1
-      (later (λ m. m (a .shape))
-      (later (λ m. m (a .above-one, a .one-byte)) (later (λ m. inside (p .s) m (a .some-bytes, a .short)) f))))
+  unrefused-accepted =
+      accepted-by p shape (λ n. unrefused Constant (later shape (here n)))
+      (λ n. unrefused StripLength (later shape (later (λ m. unrefused Constant (later shape (here m))) (here n))))
+    where
+      shape : (ShapeAccepted (p .n) (p .k) (p .a) → ⊥) → ⊥
+      shape n = unrefused Shape (here n)
 
--- Where the profile is accepted, none of the refusals 1, 2 and 3 is the first.
-pub accepted-later : (p : Numbers) → Accepted (profileOf p) → {table : List Sentence} (r : Refusal)
-    → FirstOf (profileSentences p ++ table) r → FirstOf table r
-unfolding profileSentences
-accepted-later p acc r first =
-    first-later (λ m. inside (p .s) m (acc .some-bytes, acc .short)) r
-    (first-later (λ m. m (acc .above-one, acc .one-byte)) r (first-later (λ m. m (acc .shape)) r first))
+  -- and none is the first of what comes after them.
+  pub unrefused-later : (r : Refusal) → FirstOf table r → ⊥
+  unrefused-later r f = unrefused r (accepted-first p unrefused-accepted r f)
 
--- The tests of refusals 1, 2 and 3, before any others, decide their sentences.
-pub profile-decided : (p : Numbers) {tests : List Test} {table : List Sentence} → Decided tests table
-    → Decided (profileTests p ++ tests) (profileSentences p ++ table)
+-- The same of a call that is done.
+module _ {X : Type 0} (before : X) (p : Numbers) (table : List Sentence) (outcome : Answer × X) (v : ℕ)
+    (R : RefusesExactly (profileSentences p ++ table) before outcome) (e : outcome .0 ≡ Done v) where
+  pub done-accepted : Accepted (profileOf p)
+  done-accepted = unrefused-accepted p table (done-unrefused before outcome v R e)
+
+  pub done-later : (r : Refusal) → FirstOf table r → ⊥
+  done-later = unrefused-later p table (done-unrefused before outcome v R e)
+
+-- The tests of refusals 1, 2 and 3, before others that decide their lines for an accepted profile, decide theirs.
+pub profile-decided : (p : Numbers) {tests : List Test} {table : List Sentence}
+    → (Accepted (profileOf p) → Decided tests table) → Decided (profileTests p ++ tests) (profileSentences p ++ table)
 unfolding profileTests profileSentences
 profile-decided p rest =
     line refl (decides-not _ (decides-shape (p .n) (p .k) (p .a)))
-    (line refl (decides-not _ (decides-constant (p .t)))
-    (line refl (decides-same _ (decides-not _ (decides-strip (p .s))) (outside (p .s)) (inside (p .s))) rest))
+    (λ shape.
+    line refl (decides-not _ (decides-constant (p .t)))
+    (λ constant.
+    line refl (decides-same _ (decides-not _ (decides-strip (p .s))) (outside (p .s)) (inside (p .s)))
+    (λ strip. rest (accepted-by p shape constant strip))))
 
 -- Encoding refuses exactly as the table says, and a refusal leaves the array as it was.
 pub demand-1-encode : (p : Numbers) (d x : List ℕ) → Demand1Encode p d x
@@ -271,10 +341,11 @@ demand-1-encode p d x = record {
     decides : Decided (encodeTests p d x) (encodeSentences p d x)
     decides =
         profile-decided p
-        (line refl
+        (λ acc.
+        line refl
         (decides-not _
         (decides-both _ _ (decides-eq (length d) (p .k * p .a * p .s)) (decides-eq (length x) (p .n * p .a * p .s))))
-        none)
+        (λ l. none))
 
 -- Encoding that is done has buffers of the right lengths.
 pub done-sizes : (p : Numbers) (d x : List ℕ) (v : ℕ) → encodeOf p d x .0 ≡ Done v
@@ -296,7 +367,7 @@ demand-1-plan p f x = record {
     decides : Decided (planTests p f x) (planSentences p f x)
     decides =
         profile-decided p
-        (line refl (decides-not _ (decides-lt f (p .n))) (line refl (decides-lt (length x) _) none))
+        (λ acc. line refl (decides-not _ (decides-lt f (p .n))) (λ h. line refl (decides-lt (length x) _) (λ l. none)))
 
 -- the numbers of document 01, 17 + i(9+S), are where a field 03 starts, and what its parts are counted from
 field-is : (p : Profile) (i : ℕ) → stripFieldStart p i ≡ 17 + i * (9 + p .s)
@@ -335,20 +406,22 @@ demand-1-write p f r x b = record {
     decides : Decided (writeTests p f x b) (writeSentences p f x b)
     decides =
         profile-decided p
-        (line refl (decides-not _ (decides-lt f (p .n)))
-        (line refl
+        (λ acc.
+        line refl (decides-not _ (decides-lt f (p .n)))
+        (λ h.
+        line refl
         (decides-not _
         (decides-same _
         (decides-both _ _ (decides-eq (length x) (p .n * p .a * p .s)) (decides-eq (length b) _))
         (λ h. (h .0, h .1 ∙ length-is (profileOf p) (record { 0 = f })))
-        (λ h. (h .0, h .1 ∙ sym (length-is (profileOf p) (record { 0 = f })))))) none))
+        (λ h. (h .0, h .1 ∙ sym (length-is (profileOf p) (record { 0 = f })))))) (λ l. none)))
 
 -- ---- tables with a line for each strip
 -- two tables in a row
 decided-append : {t₁ t₂ : List Test} {s₁ s₂ : List Sentence} → Decided t₁ s₁ → Decided t₂ s₂
     → Decided (t₁ ++ t₂) (s₁ ++ s₂)
 decided-append none e = e
-decided-append (line same decides d) e = line same decides (decided-append d e)
+decided-append (line same decides d) e = line same decides (λ n. decided-append (d n) e)
 
 decided-listed : (n : ℕ) (T : ℕ → Test) (s : ℕ → Sentence) → ((i : ℕ) → T i .refusal ≡ s i .refusal)
     → ((i : ℕ) → Decides (T i .holds) (s i .says)) → Decided (listed n T) (listed n s)
@@ -356,7 +429,7 @@ unfolding listed
 decided-listed zero T s same decides = none
 decided-listed (suc n) T s same decides =
     line (same 0) (decides 0)
-    (decided-listed n (λ i. T (suc i)) (λ i. s (suc i)) (λ i. same (suc i)) (λ i. decides (suc i)))
+    (λ n₀. decided-listed n (λ i. T (suc i)) (λ i. s (suc i)) (λ i. same (suc i)) (λ i. decides (suc i)))
 
 -- lines none of which holds, before others and at the end
 pub first-past : (n : ℕ) (s : ℕ → Sentence) → ((i : ℕ) → i < n → s i .says → ⊥) → {table : List Sentence} (r : Refusal)
@@ -430,8 +503,10 @@ module _ (p : Profile) (f : Node) (r : Recording) (b : List ℕ) where
   unfolding bundleTests bundleSentences placed fresh recordingBytes
   bundle-decided =
       line refl (decides-not _ decides-formed)
-      (line refl (decides-not _ decides-headed)
-      (decided-append
+      (λ form.
+      line refl (decides-not _ decides-headed)
+      (λ head.
+      decided-append
       (decided-listed (length (planned p f)) _ _ (λ i. refl)
       (λ i. decides-not _
       (decides-same _ (decides-place (placeIn p b i) (plannedAt p f i)) (λ e. sym (place-is p b i) ∙ e)
@@ -459,8 +534,11 @@ demand-1-rebuild p f r b y = record {
     decides : Decided (rebuildTests p f r b y) (rebuildSentences p f r b y)
     decides =
         profile-decided p
-        (line refl (decides-not _ (decides-lt f (p .n)))
-        (line refl (decides-not _ (decides-eq (length y) (p .a * p .s))) (bundle-decided (profileOf p) lost r b)))
+        (λ acc.
+        line refl (decides-not _ (decides-lt f (p .n)))
+        (λ h.
+        line refl (decides-not _ (decides-eq (length y) (p .a * p .s)))
+        (λ l. bundle-decided (profileOf p) lost r b)))
 
     -- the lines of 8 and 9, by what each comes with
     strip-lines : (g : Sentence → ℕ) (misplaced stale : ℕ → Sentence)
@@ -480,11 +558,69 @@ demand-1-rebuild p f r b y = record {
     indices =
         ap (λ (l : List ℕ). 0 ∷ 0 ∷ 0 ∷ 0 ∷ 0 ∷ 0 ∷ 0 ∷ l) (strip-lines (λ s. indexOf (s .refusal)) _ _)
 
--- Demand 1 for the four calls.
+-- So does reading back.
+pub demand-1-read : (p : Numbers) (nodes x y : List ℕ) → Demand1Read p nodes x y
+unfolding readOf readTests readSentences profileSentences numberOf indexOf
+demand-1-read p nodes x y = record {
+  numbered = (refl, refl);
+  decided = decides;
+  refuses = tried-exactly y _ _ decides;
+}
+  where
+    list : Decides (listAccepted (p .n) (p .k) 0 nodes) (Rising (p .n) (p .k) nodes)
+    list = decides-list-accepted (p .n) (p .k) 0 nodes
+
+    decides : Decided (readTests p nodes x y) (readSentences p nodes x y)
+    decides =
+        profile-decided p
+        (λ acc.
+        line refl (decides-not _ list)
+        (λ h.
+        line refl
+        (decides-not _
+        (decides-both _ _ (decides-eq (length x) (p .k * p .a * p .s)) (decides-eq (length y) (p .k * p .a * p .s))))
+        (λ l. line refl (decides-ambiguous (profileOf p) acc nodes (decided _ list h)) (λ a. none))))
+
+-- So does a survey: where it is not refused its answer is done, with the number of sets looked at.
+pub demand-1-survey : (p : Numbers) (start most : ℕ) (x : List ℕ) → Demand1Survey p start most x
+unfolding surveyOf surveyAnswer surveyTests surveySentences profileSentences numberOf indexOf answerValue
+demand-1-survey p start most x = record {
+  numbered = (refl, refl);
+  decided = decides;
+  refuses = rw told (tried-exactly x _ _ decides);
+}
+  where
+    decides : Decided (surveyTests p start x) (surveySentences p start x)
+    decides =
+        profile-decided p
+        (λ acc.
+        line refl (decides-lt (sets (p .n) (p .k)) start)
+        (λ h. line refl (decides-not _ (decides-eq (length x) (p .k))) (λ l. none)))
+
+    result : Surveyed × List ℕ
+    result = resultOf (profileOf p) start most x
+
+    is-done : surveyAnswer (result .0) ≡ Done (answerValue (surveyAnswer (result .0)))
+    is-done =
+        by-result (profileOf p) start most x (λ s. surveyAnswer (s .0) ≡ Done (answerValue (surveyAnswer (s .0))))
+        (λ h. refl) (λ h e. refl) (λ h e. refl)
+
+    answerOf : Surveyed × List ℕ → Answer × List ℕ
+    answerOf s = (surveyAnswer (s .0), s .1)
+
+    told : answerOf (surveyOf p start most x)
+        ≡ tried (surveyTests p start x) (λ r. (Refused r, x)) (Done (answerValue (surveyAnswer (result .0))), result .1)
+    told =
+        tried-map answerOf (surveyTests p start x) _ result
+        ∙ ap (λ (a : Answer). tried (surveyTests p start x) (λ r. (Refused r, x)) (a, result .1)) is-done
+
+-- Demand 1 for the six calls.
 pub demand-1 : Demand1
 demand-1 = record {
   encode = demand-1-encode;
   plan = demand-1-plan;
   write = demand-1-write;
   rebuild = demand-1-rebuild;
+  read = demand-1-read;
+  survey = demand-1-survey;
 }

@@ -4,3 +4,5 @@ pub mod Plan
 pub mod Rebuild
 pub mod Program
 pub mod Demand3
+pub mod Reading
+pub mod Survey

@@ -4,7 +4,8 @@
 -- Sentence                            : a refusal, and what document 01's table says of it, for one call
 -- FirstOf table r                     : r is the first refusal in the table whose condition holds
 -- RefusesExactly table before outcome : a call with this outcome, lent the bytes `before`, refuses as the table says
--- Decided tests table                 : the tests that a call makes decide the sentences of the table, line by line
+-- Decided tests table                 : the tests that a call makes decide the sentences of the table, line by line, each
+--                                       where those before it do not hold
 -- profileSentences p                  : the lines for a profile's numbers
 -- encodeSentences p d x               : the table for encoding the data d into x
 -- planSentences p f x                 : the table for planning the rebuild of node f into x
@@ -15,17 +16,21 @@
 -- bundleSentences p f r b             : the lines for a bundle to read, where the profile p, the lost node f and the
 --                                       recording r are wanted
 -- rebuildSentences p f r b y          : the table for rebuilding node f from the bundle b into y
+-- readSentences p nodes x y           : the table for reading back the columns x of the named nodes into y
+-- surveySentences p start x           : the table for a survey from a position on, into x
 -- Numbered table numbers indices      : the table's lines have these numbers, and come with these indices
 -- Demand1Encode p d x                 : encoding refuses as its table says, which has document 01's numbers
 -- Demand1Plan p f x                   : so does planning
 -- Demand1Write p f r x b              : so does the writing of a bundle
 -- Demand1Rebuild p f r b y            : so does a rebuild
--- Demand1                             : the four, for all numbers and bytes. Shown in proofs/Demand1.antt: demand-1
+-- Demand1Read p nodes x y             : so does reading back
+-- Demand1Survey p start most x        : so does a survey
+-- Demand1                             : the six, for all numbers and bytes. Shown in proofs/Demand1.antt: demand-1
 --
 -- The statements here and in the other files are about definitions. An entry point's promise, without any `requires`, is
 -- that its answer and what it leaves in the buffers lent for writing are its definition's: `encode` is encodeOf, `plan`
--- planOf, `write_bundle` writeOf, `rebuild` rebuildOf, the small program programOf, and an exported function is the same
--- with its answer as one number. That every entry point answers: each function of the store is proved to end without a
+-- planOf, `write_bundle` writeOf, `rebuild` rebuildOf, `read_back` readOf, `survey` surveyOf, the small program programOf,
+-- and an exported function is the same with its answer as one number. That every entry point answers: each function of the store is proved to end without a
 -- fault.
 use mathlib.Core.Path.{_≡_}
 use mathlib.Core.Logic.{_↔_, _≢_, _⊎_}
@@ -35,6 +40,7 @@ use lib.ListN.{length, getD}
 use Rattle.lists.specs.Listed.{listed}
 use Rattle.lists.specs.Put.{slice}
 use Rattle.fields.specs.Fields.{twoBytes, fourBytes}
+use Rattle.ksets.specs.Sets.{sets, Rising}
 use Rattle.document.specs.declared.Numbers.{Numbers}
 use Rattle.document.specs.declared.Refusal.{Refusal}
 use Rattle.document.specs.declared.Profile.{Profile}
@@ -51,6 +57,7 @@ use Rattle.document.specs.declared.Refusal.the-variants.{
   BundleHead,
   Misplaced,
   Stale,
+  Ambiguous,
 }
 use Rattle.document.specs.declared.Answer.{Answer}
 use Rattle.document.specs.declared.Answer.the-variants.{Refused}
@@ -61,6 +68,8 @@ use Rattle.document.specs.Encoding.{encodeTests, encodeOf}
 use Rattle.document.specs.Plan.{planned, plannedAt, planTests, planOf}
 use Rattle.document.specs.Bundle.{writeTests, writeOf}
 use Rattle.document.specs.Rebuild.{rebuildTests, rebuildOf}
+use Rattle.document.specs.Reading.{TwoData, readTests, readOf}
+use Rattle.document.specs.Survey.{surveyTests, surveyOf, surveyAnswer}
 
 -- One line of the table 'Refusals by number, in the order they are tried', for one call.
 pub record Sentence : Type 1 where
@@ -80,11 +89,11 @@ pub record RefusesExactly {X : Type 0} (table : List Sentence) (before : X) (out
   -- 'and it changes no byte that was lent'
   pub kept : (r : Refusal) → outcome .0 ≡ Refused r → outcome .1 ≡ before
 
--- Each test is true exactly where the sentence in its line holds.
+-- Each test is true exactly where the sentence in its line holds, if it is tried: where no sentence before it does.
 pub data Decided : List Test → List Sentence → Type 1 where
   none : Decided [] []
   line : {test : Test} {s : Sentence} {tests : List Test} {table : List Sentence} → test .refusal ≡ s .refusal
-      → Decides (test .holds) (s .says) → Decided tests table → Decided (test ∷ tests) (s ∷ table)
+      → Decides (test .holds) (s .says) → ((s .says → ⊥) → Decided tests table) → Decided (test ∷ tests) (s ∷ table)
 
 -- 1: 'n, k or A not accepted'. 2: 't not in 2..255'. 3: 'S is 0 or above 512'.
 unfoldable pub profileSentences : Numbers → List Sentence
@@ -172,6 +181,27 @@ rebuildSentences p f r b y =
     ∷ record { refusal = BufferLength; says = length y ≢ p .a * p .s }
     ∷ bundleSentences (profileOf p) (record { 0 = f }) r b)
 
+-- 4: 'node list not k strictly rising numbers below n'. 5: columns and data have kAS bytes each. 10: 'some two different
+-- data give equal columns on these nodes'.
+unfoldable pub readSentences : Numbers → List ℕ → List ℕ → List ℕ → List Sentence
+readSentences p nodes x y =
+    profileSentences p
+    ++ (record { refusal = OutOfRange; says = Rising (p .n) (p .k) nodes → ⊥ }
+    ∷ record {
+      refusal = BufferLength;
+      says = (length x ≡ p .k * p .a * p .s) × (length y ≡ p .k * p .a * p .s) → ⊥;
+    }
+    ∷ record { refusal = Ambiguous; says = TwoData (profileOf p) nodes }
+    ∷ [])
+
+-- 4: 'survey start above the number of sets'. 5: 'a lent buffer of k bytes'.
+unfoldable pub surveySentences : Numbers → ℕ → List ℕ → List Sentence
+surveySentences p start x =
+    profileSentences p
+    ++ (record { refusal = OutOfRange; says = sets (p .n) (p .k) < start }
+    ∷ record { refusal = BufferLength; says = length x ≢ p .k }
+    ∷ [])
+
 -- 'by number': the lines of a table have these numbers; '8 and 9 come with the index .., the others with 0'.
 abbrev pub Numbered : List Sentence → List ℕ → List ℕ → Type 0
 Numbered table numbers indices =
@@ -204,9 +234,24 @@ pub record Demand1Rebuild (p : Numbers) (f : ℕ) (r : Recording) (b y : List �
   pub decided : Decided (rebuildTests p f r b y) (rebuildSentences p f r b y)
   pub refuses : RefusesExactly (rebuildSentences p f r b y) y (rebuildOf p f r b y)
 
+-- Demand 1 for reading back.
+pub record Demand1Read (p : Numbers) (nodes x y : List ℕ) : Type 1 where
+  pub numbered : Numbered (readSentences p nodes x y) (1 ∷ 2 ∷ 3 ∷ 4 ∷ 5 ∷ 10 ∷ []) (0 ∷ 0 ∷ 0 ∷ 0 ∷ 0 ∷ 0 ∷ [])
+  pub decided : Decided (readTests p nodes x y) (readSentences p nodes x y)
+  pub refuses : RefusesExactly (readSentences p nodes x y) y (readOf p nodes x y)
+
+-- Demand 1 for a survey, whose answer is told as that of any call: refused, or done.
+pub record Demand1Survey (p : Numbers) (start most : ℕ) (x : List ℕ) : Type 1 where
+  pub numbered : Numbered (surveySentences p start x) (1 ∷ 2 ∷ 3 ∷ 4 ∷ 5 ∷ []) (0 ∷ 0 ∷ 0 ∷ 0 ∷ 0 ∷ [])
+  pub decided : Decided (surveyTests p start x) (surveySentences p start x)
+  pub refuses : RefusesExactly (surveySentences p start x) x
+      (surveyAnswer (surveyOf p start most x .0), surveyOf p start most x .1)
+
 -- 'Any bytes, any numbers, any time'
 pub record Demand1 : Type 1 where
   pub encode : (p : Numbers) (d x : List ℕ) → Demand1Encode p d x
   pub plan : (p : Numbers) (f : ℕ) (x : List ℕ) → Demand1Plan p f x
   pub write : (p : Numbers) (f : ℕ) (r : Recording) (x b : List ℕ) → Demand1Write p f r x b
   pub rebuild : (p : Numbers) (f : ℕ) (r : Recording) (b y : List ℕ) → Demand1Rebuild p f r b y
+  pub read : (p : Numbers) (nodes x y : List ℕ) → Demand1Read p nodes x y
+  pub survey : (p : Numbers) (start most : ℕ) (x : List ℕ) → Demand1Survey p start most x

@@ -2,6 +2,7 @@
 use mathlib.Core.Path.{_≡_}
 use Prim.Native.Nat.{ℕ, _+_, _*_, _/_, _%_, _≤_, _<_}
 use native.Mathlib.Nat.{suc-mul, mul-le-mul, mul-le-mul-right, div-lt-iff-lt-mul, div-add-mod', mod-lt}
+use native.Mathlib.Decide.{ℕ-discrete}
 use native.Mathlib.Omega.{arith}
 use lib.Arith.{digits-lt}
 use Rattle.document.specs.declared.Profile.{Profile}
@@ -13,8 +14,27 @@ use Rattle.document.specs.Places.{place, partnerOf, Within}
 pub room : (m c w : ℕ) → m < c → m * w + w ≤ c * w
 room m c w h = rw suc-mul at (mul-le-mul-right w h)
 
+-- a node in the square for each row of parity: (24 - A)A is largest for four rows
+product-bound : (k A : ℕ) → k + A ≤ 24 → A ≤ 4 → k * A ≤ 80
+product-bound k A h l = go (ℕ-discrete A 4) (ℕ-discrete A 3)
+  where
+    go : Dec (A ≡ 4) → Dec (A ≡ 3) → k * A ≤ 80
+    go (yes e) d = let m : k + 4 ≤ 24 = rw e at h in rw e (omega arith)
+    go (no d) (yes e) = let m : k + 3 ≤ 24 = rw e at h in rw e (omega arith)
+    go (no d) (no e) = omega (arith, mul-le-mul {n₁ = k} {m₁ = A} {n₂ = 24} {m₂ = 2} (omega arith) (omega arith))
+
 module _ (p : Profile) (acc : Accepted p) where
   open Profile p using (n, k, a as A, s as S)
+
+  -- 'at most 80 by 80 field elements'
+  pub square-bound : k * A ≤ 80
+  square-bound = product-bound k A (omega (arith, acc .shape)) (acc .shape .few-rows)
+
+  pub data-bound : k * A * S ≤ 40960
+  data-bound = mul-le-mul {n₁ = k * A} {m₁ = S} {n₂ = 80} {m₂ = 512} square-bound (acc .short)
+
+  pub table-bound : n * k ≤ 576
+  table-bound = mul-le-mul {n₁ = n} {m₁ = k} {n₂ = 24} {m₂ = 24} (acc .shape .few-nodes) (omega (arith, acc .shape))
 
   pub A>0 : 0 < A
   A>0 = omega (arith, acc .shape .two-rows)

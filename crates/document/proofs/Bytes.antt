@@ -1,5 +1,6 @@
 -- Bytes and their numbers.
-use mathlib.Core.Path.{_≡_, refl, sym, ap, _∙_}
+use mathlib.Core.Path.{_≡_, refl, sym, ap, ap₂, _∙_}
+use mathlib.Core.Logic.{_≢_}
 use Prim.Native.Nat.{ℕ, _≤_, _<_}
 use native.Mathlib.Nat.{mod-eq-of-lt}
 use native.Mathlib.Decide.{Fin·val-path}
@@ -51,7 +52,34 @@ pub number-inv : (a : Byte) → number (bytes .inv a) ≡ inverse (number a)
 unfolding bytes number
 number-inv a = refl
 
+-- so the byte of a sum, product or inverse is that of the bytes
+pub byte-zero : byte 0 ≡ bytes .𝟘
+byte-zero = ap byte (sym number-zero) ∙ byte-number (bytes .𝟘)
+
+pub byte-one : byte 1 ≡ bytes .𝟙
+byte-one = ap byte (sym number-one) ∙ byte-number (bytes .𝟙)
+
+pub byte-add : (a b : ℕ) → a < 256 → b < 256 → byte (a ⊕ b) ≡ bytes .add (byte a) (byte b)
+byte-add a b h k =
+    ap byte (sym (number-add (byte a) (byte b) ∙ ap₂ _⊕_ (number-byte a h) (number-byte b k)))
+    ∙ byte-number (bytes .add (byte a) (byte b))
+
+pub byte-mul : (a b : ℕ) → byte (a ⊗ b) ≡ bytes .mul (byte a) (byte b)
+byte-mul a b =
+    ap byte (sym (number-mul (byte a) (byte b) ∙ byte-left a (number (byte b)) ∙ byte-right a b))
+    ∙ byte-number (bytes .mul (byte a) (byte b))
+
+pub byte-inv : (a : ℕ) → a < 256 → byte (inverse a) ≡ bytes .inv (byte a)
+byte-inv a h =
+    ap byte (sym (number-inv (byte a) ∙ ap inverse (number-byte a h))) ∙ byte-number (bytes .inv (byte a))
+
+-- equal bytes of numbers below 256 have equal numbers
+pub byte-one-one : (a b : ℕ) → a < 256 → b < 256 → byte a ≡ byte b → a ≡ b
+byte-one-one a b h k e = sym (number-byte a h) ∙ ap number e ∙ number-byte b k
+
+pub byte-ne : (a : ℕ) → a < 256 → a ≢ 0 → byte a ≢ bytes .𝟘
+byte-ne a h n e = n (byte-one-one a 0 h (omega arith) (e ∙ sym byte-zero))
+
 -- different numbers below 256 are different bytes
 pub points-distinct : (n : ℕ) → n ≤ 256 → Distinct bytes n byte
-points-distinct n h i j l b e =
-    omega (arith, sym (number-byte i (omega arith)) ∙ ap number e ∙ number-byte j (omega arith))
+points-distinct n h i j l b e = omega (arith, byte-one-one i j (omega arith) (omega arith) e)

@@ -56,7 +56,7 @@ module _ (p : Profile) where
   θ = factor bytes (constantOf p)
 
   -- document 01's three cases are the algebra's one
-  coupled-stored : (a : Place → Byte) (i j : ℕ)
+  pub coupled-stored : (a : Place → Byte) (i j : ℕ)
       → coupledAt p a (place j i) ≡ stored bytes A θ (λ i j. a (place j i)) i j
   unfolding stored
   coupled-stored a i j = go (ℕ-discrete i (j % A)) (decLt i (j % A))

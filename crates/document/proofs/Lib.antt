@@ -15,3 +15,10 @@ pub mod Columns
 pub mod Chosen
 pub mod Values
 pub mod Program
+pub mod Factors
+pub mod SquareSteps
+pub mod Squares
+pub mod Coefficients
+pub mod Reading
+pub mod Lists
+pub mod Surveys

@@ -7,14 +7,19 @@ use native.Mathlib.Nat.{zero-lt-suc, mul-le-mul}
 use native.Mathlib.Omega.{arith}
 use lib.Dec.{eqb, ltb}
 use lib.ListN.{length}
-use borrow.Author.Tests.{ltb-true, not-false}
+use borrow.Author.Tests.{ltb-true, ltb-false, not-false}
 use Rattle.lists.specs.Listed.{listed}
+use Rattle.ksets.specs.Sets.{sets}
+use Rattle.ksets.proofs.Pascal.{sets-bound}
 use Rattle.document.specs.declared.Numbers.{Numbers}
 use Rattle.document.specs.declared.Profile.{Profile}
 use Rattle.document.specs.declared.Node.{Node}
 use Rattle.document.specs.declared.Recording.{Recording}
 use Rattle.document.specs.declared.Answer.{Answer}
 use Rattle.document.specs.declared.Answer.the-variants.{Done, Refused}
+use Rattle.document.specs.declared.Refusal.{Refusal}
+use Rattle.document.specs.declared.Surveyed.{Surveyed}
+use Rattle.document.specs.declared.Surveyed.the-variants as surveys
 use Rattle.document.specs.Refusals.{Test, tried, indexOf, answerValue}
 use Rattle.document.specs.Profile.{maxStrip, Accepted, profileTests, profileOf}
 use Rattle.document.specs.Encoding.{encodeTests, encodeOf}
@@ -29,51 +34,68 @@ use Rattle.document.specs.Bundle.{
   bundleTests,
 }
 use Rattle.document.specs.Rebuild.{rebuildTests, rebuildOf}
+use Rattle.document.specs.Reading.{readTests, readOf}
+use Rattle.document.specs.Survey.{resultOf, surveyTests, surveyOf, positionIn, lookedIn}
 use Rattle.document.proofs.Decides.{decides-eq, decides-both}
 use Rattle.document.proofs.Accepts.{none-refused, accepted}
 use Rattle.document.proofs.Price.{few-places}
 use Rattle.document.proofs.Bundle.{bundle-length}
+use Rattle.document.proofs.Surveys.{looked-min, by-result}
 
--- Of a list of tests: each refusal comes with an index of at most `most`, if those before it were not given, and so does
--- the value v, if none was.
-data Small (most v : ℕ) : List Test → Type 0 where
-  done : v ≤ most → Small most v []
+-- Of a list of tests: each refusal comes with an index of at most `most`, if those before it were not given, and Q holds
+-- if none was.
+data Small (most : ℕ) (Q : Type 0) : List Test → Type 0 where
+  done : Q → Small most Q []
   next : {test : Test} {tests : List Test} → indexOf (test .refusal) ≤ most
-      → (test .holds ≡ false → Small most v tests) → Small most v (test ∷ tests)
+      → (test .holds ≡ false → Small most Q tests) → Small most Q (test ∷ tests)
+
+-- what holds of each small refusal, and of x if Q does, holds of the outcome
+tried-small : {X : Type 0} (R : X → Type 0) {most : ℕ} {Q : Type 0} (refuse : Refusal → X) (x : X)
+    → ((r : Refusal) → indexOf r ≤ most → R (refuse r)) → (Q → R x)
+    → {tests : List Test} → Small most Q tests → R (tried tests refuse x)
+unfolding tried
+tried-small R refuse x f g (done h) = g h
+tried-small R refuse x f g (next {test} {tests} h rest) =
+    go (test .holds) refl (λ e. tried-small R refuse x f g (rest e))
+  where
+    go : (b : Bool) → test .holds ≡ b → (test .holds ≡ false → R (tried tests refuse x))
+        → R (tried (record { refusal = test .refusal; holds = b } ∷ tests) refuse x)
+    go true e r = f (test .refusal) h
+    go false e r = r e
 
 module _ {X : Type 0} (x y : X) (v : ℕ) where
   abbrev outcomeOf : List Test → Answer × X
   outcomeOf tests = tried tests (λ r. (Refused r, x)) (Done v, y)
 
-  value-small : {most : ℕ} {tests : List Test} → Small most v tests → answerValue (outcomeOf tests .0) ≤ most
-  unfolding tried answerValue
-  value-small (done h) = h
-  value-small {most} (next {test} {tests} h rest) = go (test .holds) refl (λ e. value-small (rest e))
-    where
-      go : (b : Bool) → test .holds ≡ b → (test .holds ≡ false → answerValue (outcomeOf tests .0) ≤ most)
-          → answerValue (outcomeOf (record { refusal = test .refusal; holds = b } ∷ tests) .0) ≤ most
-      go true e r = h
-      go false e r = r e
+  value-small : {most : ℕ} {tests : List Test} → Small most (v ≤ most) tests → answerValue (outcomeOf tests .0) ≤ most
+  unfolding answerValue
+  value-small {most} small =
+      tried-small (λ (o : Answer × X). answerValue (o .0) ≤ most) (λ r. (Refused r, x)) (Done v, y) (λ r h. h) (λ h. h) small
 
 -- a test for each of n strips
-small-listed : {most v : ℕ} (n : ℕ) (T : ℕ → Test) → ((i : ℕ) → i < n → indexOf (T i .refusal) ≤ most)
-    → {tests : List Test} → Small most v tests → Small most v (listed n T ++ tests)
+small-listed : {most : ℕ} {Q : Type 0} (n : ℕ) (T : ℕ → Test) → ((i : ℕ) → i < n → indexOf (T i .refusal) ≤ most)
+    → {tests : List Test} → Small most Q tests → Small most Q (listed n T ++ tests)
 unfolding listed
 small-listed zero T h rest = rest
 small-listed (suc n) T h rest =
     next (h 0 (zero-lt-suc n)) (λ e. small-listed n (λ i. T (suc i)) (λ i l. h (suc i) (suc-le-suc l)) rest)
 
-small-last : {most v : ℕ} (n : ℕ) (T : ℕ → Test) → ((i : ℕ) → i < n → indexOf (T i .refusal) ≤ most) → v ≤ most
-    → Small most v (listed n T)
+small-last : {most : ℕ} {Q : Type 0} (n : ℕ) (T : ℕ → Test) → ((i : ℕ) → i < n → indexOf (T i .refusal) ≤ most) → Q
+    → Small most Q (listed n T)
 unfolding listed
 small-last zero T h value = done value
 small-last (suc n) T h value =
     next (h 0 (zero-lt-suc n)) (λ e. small-last n (λ i. T (suc i)) (λ i l. h (suc i) (suc-le-suc l)) value)
 
+-- what a C host is told of a survey: a position, and a number of sets looked at
+pub record Counted (answer : Surveyed) : Type 0 where
+  pub position : positionIn answer ≤ 2704156
+  pub looked : lookedIn answer ≤ 2704156
+
 module _ (p : Numbers) where
   -- the tests of a profile, before others that may count on it
-  small-profile : {most v : ℕ} {tests : List Test} → (Accepted (profileOf p) → Small most v tests)
-      → Small most v (profileTests p ++ tests)
+  small-profile : {most : ℕ} {Q : Type 0} {tests : List Test} → (Accepted (profileOf p) → Small most Q tests)
+      → Small most Q (profileTests p ++ tests)
   unfolding profileTests indexOf
   small-profile rest =
       next zero-le (λ shape. next zero-le (λ constant. next zero-le (λ strip.
@@ -83,6 +105,36 @@ module _ (p : Numbers) where
   pub encode-value : (d x : List ℕ) → answerValue (encodeOf p d x .0) ≤ 0
   unfolding encodeOf encodeTests indexOf
   encode-value d x = value-small x _ 0 (small-profile (λ acc. next zero-le (λ e. done zero-le)))
+
+  pub read-value : (nodes x y : List ℕ) → answerValue (readOf p nodes x y .0) ≤ 0
+  unfolding readOf readTests indexOf
+  read-value nodes x y =
+      value-small y _ 0
+      (small-profile (λ acc. next zero-le (λ e. next zero-le (λ f. next zero-le (λ g. done zero-le)))))
+
+  -- no position and no number of sets is greater than the number of sets of 24 nodes
+  pub survey-counted : (start most : ℕ) (x : List ℕ) → Counted (surveyOf p start most x .0)
+  unfolding surveyOf surveyTests positionIn lookedIn indexOf
+  survey-counted start most x =
+      tried-small (λ (o : Surveyed × List ℕ). Counted (o .0)) {most = 0} (λ r. (surveys.Refused r, x))
+      (resultOf (profileOf p) start most x) (λ r h. record { position = zero-le; looked = zero-le }) (λ c. c)
+      (small-profile (λ acc. next zero-le (λ e. next zero-le (λ f.
+      done (counted acc (ltb-false (sets (p .n) (p .k)) start e))))))
+    where
+      q : Profile
+      q = profileOf p
+
+      all : Accepted q → sets (p .n) (p .k) ≤ 2704156
+      all acc = sets-bound (p .n) (p .k) (acc .shape .few-nodes)
+
+      counted : Accepted q → start ≤ sets (p .n) (p .k) → Counted (resultOf q start most x .0)
+      counted acc h =
+          let b = all acc in
+          let l = looked-min q start most in
+          by-result q start most x (λ o. Counted (o .0))
+          (λ u. record { position = omega arith; looked = omega arith })
+          (λ u v. record { position = zero-le; looked = omega arith })
+          (λ u v. record { position = zero-le; looked = omega arith })
 
   module _ (lost : ℕ) where
     abbrev node : Node

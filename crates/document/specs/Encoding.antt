@@ -6,9 +6,11 @@
 -- byteAt p x b q    : byte b of that strip, in data or in an array x; 0 past the end of x
 -- baseAt p d b q    : the base symbol of the data d at byte offset b of the place q
 -- constantOf p i l  : the coupling constant of the lower strip at row i, local column l
+-- factorAt p i l    : by what the partner is multiplied in the strip at row i, local column l
 -- coupledAt p a q   : what is stored at q where the base symbols are a
 -- laidOut p m f     : m nodes in memory's order, with f b q at byte b of the place q
 -- columnOf p f j    : the column of node j among them
+-- Data p d          : d are data
 -- Stored p x        : x is a stored array
 -- encoded p d       : the array that the data d give
 -- plain p d         : the base symbols of the data d, not coupled
@@ -30,6 +32,7 @@ use Rattle.algebra.specs.Field.{Field}
 use Rattle.algebra.specs.Pick.{pick}
 use Rattle.algebra.specs.Sum.{sum}
 use Rattle.algebra.specs.Weight.{weight}
+use Rattle.algebra.specs.Coupling.{factor}
 use Rattle.document.specs.declared.Numbers.{Numbers}
 use Rattle.document.specs.declared.Profile.{Profile}
 use Rattle.document.specs.declared.Place.{Place}
@@ -65,6 +68,10 @@ module _ (p : Profile) where
   unfoldable pub constantOf : ℕ → ℕ → Byte
   constantOf i l = byte t
 
+  -- The algebra's table of factors: 0 where i = l, 1 where i < l, the constant where i > l.
+  abbrev pub factorAt : ℕ → ℕ → Byte
+  factorAt = factor bytes constantOf
+
   -- 'The stored strip x(i,j) is: a(i,j) where i = l; a(i,j) + a(partner) where i < l; a(i,j) + t·a(partner) where i > l.'
   unfoldable pub coupledAt : (Place → Byte) → Place → Byte
   coupledAt a q =
@@ -80,6 +87,11 @@ module _ (p : Profile) where
   -- 'a node's column is its A strips, row 0 first'
   unfoldable pub columnOf : (ℕ → Place → Byte) → ℕ → List ℕ
   columnOf f j = listed (A * S) (λ o. number (f (o % S) (place j (o / S))))
+
+  -- 'data use the same order with j < k': any kAS bytes
+  pub record Data (d : List ℕ) : Type 0 where
+    pub size : length d ≡ k * A * S
+    pub bytes-only : (e : ℕ) → e < length d → getD d e 0 < 256
 
   -- 'A stored array is any nAS bytes.'
   pub record Stored (x : List ℕ) : Type 0 where

@@ -7,3 +7,5 @@ pub mod Plan
 pub mod Bundle
 pub mod Rebuild
 pub mod Program
+pub mod Reading
+pub mod Survey

@@ -6,7 +6,7 @@ ghost use Rattle.document.specs.Bytes.{number};
 ghost use Rattle.document.specs.Profile.{Accepted, shapeAccepted, checkedOf};
 ghost use Rattle.document.specs.Places.{place, partnerOf, Within};
 ghost use Rattle.document.specs.Encoding;
-ghost use Rattle.document.specs.Encoding.{constantOf};
+ghost use Rattle.document.specs.Encoding.{constantOf, factorAt};
 
 // The numbers of a profile as they are handed in: any numbers whatever.
 pub struct Numbers {
@@ -113,6 +113,17 @@ impl Refusal {
 // The answer of a call: done, with its value, or refused.
 pub enum Answer {
     Done(usize),
+    Refused(Refusal),
+}
+
+// The answer of a survey, with the number of sets looked at.
+pub enum Surveyed {
+    // The first failing set: its position, counted from the first set of all, and the number.
+    Failing(usize, usize),
+    // None of the sets looked at fails, and none is left.
+    Done(usize),
+    // None of them fails, and some are left.
+    Open(usize),
     Refused(Refusal),
 }
 
@@ -228,5 +239,20 @@ impl Profile {
         ensures { λ r. ⌜ r ≡ number (constantOf self (i .0) l) ⌝ }
     {
         self.t
+    }
+
+    // By what the partner is multiplied in the strip at a row and a local column.
+    pub fn factor(self, i: Row, l: usize) -> u8
+        requires { ⌜ Accepted self ⌝ }
+        ensures { λ r. ⌜ r ≡ number (factorAt self (i .0) l) ⌝ }
+    {
+        let row = i.0;
+        if row == l {
+            return 0;
+        }
+        if row < l {
+            return 1;
+        }
+        self.constant(i, l)
     }
 }

@@ -7,8 +7,7 @@ use native.Mathlib.Numerals.{add-one}
 use native.Mathlib.Omega.{arith}
 use lib.ListN.{length, getD, take}
 use lib.Seq.{take-at, take-all}
-use Rattle.lists.specs.Listed.{listed}
-use Rattle.lists.proofs.Listed.{listed-length, listed-at, listed-ext, listed-take}
+use Rattle.lists.proofs.Listed.{listed-ext}
 use Rattle.algebra.specs.Sum.{sum}
 use Rattle.algebra.specs.Weight.{weight}
 use Rattle.algebra.proofs.Sum.{sum-ext}
@@ -20,11 +19,7 @@ use Rattle.document.specs.Places.{place}
 use Rattle.document.specs.Bytes.{bytes, Byte, byte, number}
 use Rattle.document.specs.Encoding.{start, byteAt, baseAt, laidOut, columnOf}
 use Rattle.document.proofs.Bytes.{number-byte, byte-number}
-use Rattle.coefficients.specs.Weights.{Different, Outside, points, weightsOf}
-use Rattle.coefficients.proofs.Lagrange.{weights-length, weights-at}
 use Rattle.coefficients.proofs.Combination.{sum-bytes}
-use Rattle.algebra.proofs.Weight.{weight-ext}
-use Rattle.encode.specs.Steps.{dataNodes}
 use Rattle.document.proofs.Bounds.{A>0}
 use Rattle.document.proofs.Rows.{row-data}
 use Rattle.document.proofs.Arrays.{laid-length, laid-only, laid-next}
@@ -84,45 +79,3 @@ module _ (p : Profile) (f : ℕ → Place → Byte) where
   -- all columns
   pub all-columns : (xs : List ℕ) → length xs ≡ n * A * S → take (n * (A * S)) xs ≡ laidOut p n f → xs ≡ laidOut p n f
   all-columns xs size h = sym (take-all (n * (A * S)) xs (omega (arith, mul-assoc n A S))) ∙ h
-
--- ---- the data nodes
-data-at : (k q : ℕ) → q < k → getD (dataNodes k) q 0 ≡ q
-unfolding dataNodes
-data-at k q h = listed-at k (λ q. q) q 0 h
-
-pub data-length : (k : ℕ) → length (dataNodes k) ≡ k
-unfolding dataNodes
-data-length k = listed-length k (λ q. q)
-
-pub data-nodes : (k : ℕ) {nodes : List ℕ} → nodes ≡ listed 24 (λ q. q) → k ≤ 24 → take k nodes ≡ dataNodes k
-unfolding dataNodes
-data-nodes k e h = ap (take k) e ∙ listed-take k 24 (λ q. q) h
-
-pub data-different : (k : ℕ) → k ≤ 24 → Different (dataNodes k)
-data-different k h = record {
-  few = rw data-length h;
-  apart = λ i j l b e. omega (arith, l, at i j l b e);
-}
-  where
-    at : (i j : ℕ) → i < j → j < length (dataNodes k) → getD (dataNodes k) i 0 ≡ getD (dataNodes k) j 0 → i ≡ j
-    at i j l b e =
-        let c : j < k = rw data-length at b in
-        sym (data-at k i (omega arith)) ∙ e ∙ data-at k j c
-
--- a parity node is none of them
-pub parity-outside : (k j : ℕ) → k ≤ j → Outside (dataNodes k) j
-parity-outside k j h q b e =
-    let c : q < k = rw data-length at b in
-    let d : q ≡ j = sym (data-at k q c) ∙ e in
-    omega arith
-
--- the weights of a parity node
-pub parity-weights : (k j : ℕ) → length (weightsOf (dataNodes k) j) ≡ k
-parity-weights k j = weights-length (dataNodes k) j ∙ data-length k
-
-pub parity-weight : (k j q : ℕ) → q < k
-    → getD (weightsOf (dataNodes k) j) q 0 ≡ number (weight bytes k byte q (byte j))
-parity-weight k j q h =
-    weights-at (dataNodes k) j q (rw data-length h)
-    ∙ ap (λ (m : ℕ). number (weight bytes m (points (dataNodes k)) q (byte j))) (data-length k)
-    ∙ ap number (weight-ext bytes k (points (dataNodes k)) byte q (byte j) (λ i l. ap byte (data-at k i l)) h)

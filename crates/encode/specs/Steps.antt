@@ -1,20 +1,15 @@
 -- What the steps of encoding leave.
 --
--- dataNodes k        : the numbers of the data nodes
 -- partnerStrip A z   : the number in memory's order of the partner of strip z
 -- pairCoupled p z x  : x with strip z and its partner coupled, where z is the upper one of the two; otherwise x
 use mathlib.Core.Bool.{cond}
 use mathlib.Core.List.{List}
 use Prim.Native.Nat.{ℕ, _+_, _*_, _/_, _%_}
 use lib.Dec.{ltb}
-use Rattle.lists.specs.Listed.{listed}
 use Rattle.strips.specs.Strips.{coupledStrips}
 use Rattle.document.specs.declared.Profile.{Profile}
 use Rattle.document.specs.Bytes.{number}
 use Rattle.document.specs.Encoding.{constantOf}
-
-unfoldable pub dataNodes : ℕ → List ℕ
-dataNodes k = listed k (λ q. q)
 
 -- Strip z is that of node z div A, row z mod A.
 abbrev pub partnerStrip : ℕ → ℕ → ℕ

@@ -2,70 +2,27 @@
 ghost use mathlib.Core.Path.{_≡_};
 ghost use Prim.Native.Nat.{_*_, _<_, _≤_};
 ghost use lib.ListN.{length};
-ghost use Rattle.lists.specs.Listed.{listed};
 ghost use Rattle.document.specs.Profile.{Accepted};
 ghost use Rattle.document.specs.Encoding.{baseAt, columnOf, plain, coupled, encodeOf};
-ghost use Rattle.coefficients.specs.Weights.{denominatorsOf};
-ghost use Rattle.encode.specs.Steps.{dataNodes, pairCoupled};
+ghost use Rattle.coefficients.specs.Data.{dataDenominators};
+ghost use Rattle.encode.specs.Steps.{pairCoupled};
 use document::Answer;
 use document::Checked;
 use document::Numbers;
 use document::Profile;
 use document::Refusal;
 
-// The numbers of the first nodes: the data nodes are the first k of them.
-fn first_nodes() -> [u8; 24]
-    ensures { λ r. ⌜ r ≡ listed 24 (λ q. q) ⌝ }
-{
-    [
-        0,
-        1,
-        2,
-        3,
-        4,
-        5,
-        6,
-        7,
-        8,
-        9,
-        10,
-        11,
-        12,
-        13,
-        14,
-        15,
-        16,
-        17,
-        18,
-        19,
-        20,
-        21,
-        22,
-        23,
-    ]
-}
-
-// The denominators of the data nodes' weights.
-fn data_denominators(k: usize, out: &mut [u8])
-    requires { ⌜ (k ≤ 24) × (length (now out) ≡ k) ⌝ }
-    ensures { λ _. ⌜ now (out .exit) ≡ denominatorsOf (dataNodes k) ⌝ }
-{
-    let nodes = first_nodes();
-    coefficients::denominators(&nodes[..k], out);
-}
-
 // The column of a parity node: the data columns, each times its weight, added up. Every row has the same weights, so a
 // whole column is one strip to the row code.
 fn put_parity(column: &mut [u8], p: Profile, input: &[u8], denominators: &[u8], j: usize)
     requires { ⌜ Accepted p × (p .k ≤ j) × (j < p .n) ⌝ }
     requires { ⌜ (length (now input) ≡ p .k * p .a * p .s) × (length (now column) ≡ p .a * p .s) ⌝ }
-    requires { ⌜ now denominators ≡ denominatorsOf (dataNodes (p .k)) ⌝ }
+    requires { ⌜ now denominators ≡ dataDenominators (p .k) ⌝ }
     ensures { λ _. ⌜ now (column .exit) ≡ columnOf p (baseAt p (now (input .entry))) j ⌝ }
 {
     let k = p.k;
-    let nodes = first_nodes();
     let mut weights = [0u8; 24];
-    coefficients::weights(&nodes[..k], denominators, j as u8, &mut weights[..k]);
+    coefficients::data_weights(denominators, j, &mut weights[..k]);
     strips::combine(column, input, 0, p.a * p.s, &weights[..k]);
 }
 
@@ -80,7 +37,7 @@ fn put_rows(array: &mut [u8], p: Profile, input: &[u8])
     let width = p.a * p.s;
     let first = k * width;
     let mut denominators = [0u8; 24];
-    data_denominators(k, &mut denominators[..k]);
+    coefficients::data_denominators(&mut denominators[..k]);
     strips::copy(&mut array[..first], input, 0);
     let mut j = k;
     while j < n {

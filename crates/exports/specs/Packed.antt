@@ -2,9 +2,15 @@
 --
 -- packed answer   : the answer's number in the low byte, its value above it
 -- packedWith pair : an outcome with its answer packed
-use Prim.Native.Nat.{ℕ, _+_, _*_}
+-- outcomePacked outcome position looked : the value of a survey's answer: the outcome in two bits, the position and the
+--                    number of sets looked at in 22 bits each
+-- packedSurvey s   : a survey's answer: the number in the low byte, its value above it; with a refusal the value is 0
+-- packedSurveyWith pair : a survey's outcome with its answer packed
+use Prim.Native.Nat.{ℕ, _+_, _*_, _^_}
 use Rattle.document.specs.declared.Answer.{Answer}
+use Rattle.document.specs.declared.Surveyed.{Surveyed}
 use Rattle.document.specs.Refusals.{answerNumber, answerValue}
+use Rattle.document.specs.Survey.{surveyAnswer, outcomeNumber, positionIn, lookedIn}
 
 unfoldable pub packed : Answer → ℕ
 packed answer = answerNumber answer + 256 * answerValue answer
@@ -12,3 +18,14 @@ packed answer = answerNumber answer + 256 * answerValue answer
 -- The same beside what a lent buffer holds.
 abbrev pub packedWith : {X : Type 0} → Answer × X → ℕ × X
 packedWith (answer, x) = (packed answer, x)
+
+abbrev pub outcomePacked : ℕ → ℕ → ℕ → ℕ
+outcomePacked outcome position looked = outcome + 4 * (position + 2 ^ 22 * looked)
+
+unfoldable pub packedSurvey : Surveyed → ℕ
+packedSurvey s =
+    answerNumber (surveyAnswer s)
+    + 256 * outcomePacked (outcomeNumber s) (positionIn s) (lookedIn s)
+
+abbrev pub packedSurveyWith : {X : Type 0} → Surveyed × X → ℕ × X
+packedSurveyWith (answer, x) = (packedSurvey answer, x)

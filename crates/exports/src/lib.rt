@@ -1,6 +1,6 @@
 // The functions for a C host: plain numbers and byte slices over the entry points. include/whaupfield.h declares them.
 ghost use mathlib.Core.Path.{_≡_};
-ghost use Prim.Native.Nat.{_^_, _<_};
+ghost use Prim.Native.Nat.{_*_, _^_, _<_};
 ghost use Rattle.gf256.specs.Field;
 ghost use Rattle.gf256.specs.Field.{_⊗_};
 ghost use Rattle.document.specs.Refusals.{answerValue};
@@ -8,10 +8,13 @@ ghost use Rattle.document.specs.Encoding.{encodeOf};
 ghost use Rattle.document.specs.Plan.{planOf};
 ghost use Rattle.document.specs.Bundle.{writeOf};
 ghost use Rattle.document.specs.Rebuild.{rebuildOf};
-ghost use Rattle.exports.specs.Packed.{packed, packedWith};
+ghost use Rattle.document.specs.Reading.{readOf};
+ghost use Rattle.document.specs.Survey.{surveyOf, positionIn, lookedIn};
+ghost use Rattle.exports.specs.Packed.{packed, packedWith, outcomePacked, packedSurvey, packedSurveyWith};
 use document::Answer;
 use document::Numbers;
 use document::Recording;
+use document::Surveyed;
 
 // The answer's number in the low byte, its value above it.
 fn pack(answer: Answer) -> u64
@@ -94,6 +97,64 @@ pub extern "C" fn whaupfield_rebuild(
 {
     let p = Numbers { n, k, a, t, s };
     pack(rebuild::rebuild(p, lost, Recording { scenario }, bundle, column))
+}
+
+#[no_mangle]
+pub extern "C" fn whaupfield_read_back(
+    n: usize,
+    k: usize,
+    a: usize,
+    t: usize,
+    s: usize,
+    nodes: &[u8],
+    columns: &[u8],
+    output: &mut [u8],
+) -> u64
+    ensures { λ r. ⌜ (r, now (output .exit)) ≡ packedWith (readOf
+        (record { n = n; k = k; a = a; t = t; s = s }) (now (nodes .entry)) (now (columns .entry))
+        (now (output .entry))) ⌝ }
+{
+    pack(reading::read_back(Numbers { n, k, a, t, s }, nodes, columns, output))
+}
+
+// The value of a survey's answer, above the low byte: the outcome in two bits, the position and the number of sets looked
+// at in 22 bits each.
+fn pack_outcome(outcome: u64, position: usize, looked: usize) -> u64
+    requires { ⌜ (outcome < 4) × (position < 2 ^ 22) × (looked < 2 ^ 22) ⌝ }
+    ensures { λ r. ⌜ r ≡ 256 * outcomePacked outcome position looked ⌝ }
+{
+    let sets = (position as u64) + 4194304 * (looked as u64);
+    256 * (outcome + 4 * sets)
+}
+
+// The answer of a survey.
+fn pack_survey(answer: Surveyed) -> u64
+    requires { ⌜ (positionIn answer < 2 ^ 22) × (lookedIn answer < 2 ^ 22) ⌝ }
+    ensures { λ r. ⌜ r ≡ packedSurvey answer ⌝ }
+{
+    match answer {
+        Surveyed::Failing(position, looked) => pack_outcome(1, position, looked),
+        Surveyed::Done(looked) => pack_outcome(0, 0, looked),
+        Surveyed::Open(looked) => pack_outcome(2, 0, looked),
+        Surveyed::Refused(r) => r.number() as u64,
+    }
+}
+
+#[no_mangle]
+pub extern "C" fn whaupfield_survey(
+    n: usize,
+    k: usize,
+    a: usize,
+    t: usize,
+    s: usize,
+    start: usize,
+    most: usize,
+    set: &mut [u8],
+) -> u64
+    ensures { λ r. ⌜ (r, now (set .exit)) ≡ packedSurveyWith (surveyOf
+        (record { n = n; k = k; a = a; t = t; s = s }) start most (now (set .entry))) ⌝ }
+{
+    pack_survey(survey::survey(Numbers { n, k, a, t, s }, start, most, set))
 }
 
 #[no_mangle]

@@ -1,10 +1,10 @@
 -- Products, quotients and inverses by logarithms.
 use mathlib.Core.Path.{_≡_, refl, sym, ap, ap₂, _∙_}
 use Prim.Native.Nat.{ℕ, zero, suc, _+_, _-_, _*_, _/_, _%_, _<_}
-use native.Mathlib.Nat.{suc-mul, mul-suc, zero-mul, add-comm, suc-add, zero-add}
+use native.Mathlib.Nat.{mul-suc, zero-mul, mul-add, add-mul, mul-assoc, suc-add, zero-add}
 use native.Mathlib.Omega.{arith}
 use lib.Dec.{lit<}
-use Rattle.gf256.specs.Field.{_⊕_, _⊗_, double, power, log, raised, inverse}
+use Rattle.gf256.specs.Field.{_⊕_, _⊗_, double, power, log, squares, inverse}
 use Rattle.gf256.proofs.Product as P
 use Rattle.gf256.proofs.Tables.{log-lt}
 pub use Rattle.gf256.proofs.Tables.{power-log}
@@ -38,31 +38,37 @@ power-over n =
     ∙ ap (λ (x : ℕ). x ⊗ power (n % 255)) (sym (power-multiple (n / 255)))
     ∙ sym (power-add (255 * (n / 255)) (n % 255)) ∙ ap power (omega arith)
 
-raised-power : (k n : ℕ) → raised (power k) n ≡ power (n * k)
-unfolding raised power
-raised-power k zero = ap power (sym (zero-mul k))
-raised-power k (suc n) =
-    ap (λ (x : ℕ). power k ⊗ x) (raised-power k n) ∙ sym (power-add k (n * k))
-    ∙ ap power (add-comm k (n * k) ∙ sym (suc-mul n k))
+-- 2 + 4 + 8 + .., n terms
+exponent : ℕ → ℕ
+exponent zero = 0
+exponent (suc n) = 2 + 2 * exponent n
 
-raised-lt : (a n : ℕ) → raised a n < 256
-unfolding raised
-raised-lt a zero = lit< tt
-raised-lt a (suc n) = P.mul-lt a (raised a n)
+squares-power : (n k : ℕ) → squares n (power k) ≡ power (exponent n * k)
+unfolding squares power exponent
+squares-power zero k = ap power (sym (zero-mul k))
+squares-power (suc n) k =
+    ap (λ (x : ℕ). x ⊗ squares n x) (sym (power-add k k))
+    ∙ ap (λ (x : ℕ). power (k + k) ⊗ x) (squares-power n (k + k)) ∙ sym (power-add (k + k) (exponent n * (k + k)))
+    ∙ ap power (twice (exponent n))
+  where
+    twice : (e : ℕ) → k + k + e * (k + k) ≡ (2 + 2 * e) * k
+    twice e = omega (arith, mul-add e k k, add-mul 2 (2 * e) k, mul-assoc 2 e k)
 
 pub inverse-lt : (a : ℕ) → inverse a < 256
-unfolding inverse
-inverse-lt a = raised-lt a 254
+unfolding inverse squares
+inverse-lt a = P.mul-lt (a ⊗ a) (squares 6 (a ⊗ a))
 
 pub inverse-zero : inverse 0 ≡ 0
-unfolding inverse raised
-inverse-zero = P.zero-mul (raised 0 253)
+unfolding inverse squares
+inverse-zero = ap (λ (x : ℕ). x ⊗ squares 6 x) (P.zero-mul 0) ∙ P.zero-mul (squares 6 0)
 
 module _ {a : ℕ} (p : 0 < a) (h : a < 256) where
   pub mul-inverse : a ⊗ inverse a ≡ 1
-  unfolding inverse raised
+  unfolding inverse exponent
   mul-inverse =
-      ap (λ (x : ℕ). raised x 255) (sym (power-log a p h)) ∙ raised-power (log a) 255 ∙ power-multiple (log a)
+      ap (λ (x : ℕ). x ⊗ squares 7 x) (sym (power-log a p h))
+      ∙ ap (λ (x : ℕ). power (log a) ⊗ x) (squares-power 7 (log a)) ∙ sym (power-add (log a) (254 * log a))
+      ∙ ap power (omega arith) ∙ power-multiple (log a)
 
   pub inverse-above : 0 < inverse a
   inverse-above = above (inverse a) mul-inverse

@@ -9,7 +9,7 @@
 -- log-from m n p a    : the logarithm of a among the m numbers from n on, where p is the power at n
 -- log a               : the logarithm of a; 0 for 0
 -- tableOf f           : the table of 256 entries that holds f at each byte
--- raised a n          : the n-th power of a
+-- squares n a         : the product of a^2, a^4, a^8, .., n factors
 -- inverse a           : the inverse of a; 0 for 0
 -- productOf xs        : the product of all entries of xs
 -- quotientsOf xs ys   : each entry of xs divided by the entry of ys at its place
@@ -65,15 +65,19 @@ log a = log-from 255 0 1 a
 unfoldable pub tableOf : (ℕ → ℕ) → List ℕ
 tableOf f = listed 256 f
 
--- The n-th power of any a, as a product of n factors.
-unfoldable pub raised : ℕ → ℕ → ℕ
-raised a zero = 1
-raised a (suc n) = a ⊗ raised a n
+abbrev timesNext : (ℕ → ℕ) → ℕ → ℕ
+timesNext f b = b ⊗ f b
 
--- 'Inverse of zero is given as 0; no other byte has inverse 0.' The 255th power of every other byte is 1, so that the
--- product with this is 1: `mul-inverse`, `inverse-zero` and `inverse-above` in proofs/.
+-- Each factor is the square of the one before it.
+unfoldable pub squares : ℕ → ℕ → ℕ
+squares zero a = 1
+squares (suc n) a = timesNext (squares n) (a ⊗ a)
+
+-- 'Inverse of zero is given as 0; no other byte has inverse 0.' This is the 254th power, 254 being 2 + 4 + .. + 128. The
+-- 255th power of every other byte is 1, so that the product with this is 1: `mul-inverse`, `inverse-zero` and
+-- `inverse-above` in proofs/.
 unfoldable pub inverse : ℕ → ℕ
-inverse a = raised a 254
+inverse a = squares 7 a
 
 -- The product of a list, 1 for the empty one.
 unfoldable pub productOf : List ℕ → ℕ

@@ -45,7 +45,7 @@ lower {n} {b} (next {x = x} h l r) =
     let w : b ≤ x = omega arith in
     next w l r
 
-risen-length : {n b k : ℕ} {xs : List ℕ} → RisingFrom n b k xs → length xs ≡ k
+pub risen-length : {n b k : ℕ} {xs : List ℕ} → RisingFrom n b k xs → length xs ≡ k
 risen-length none = refl
 risen-length (next h l r) = ap suc (risen-length r)
 

@@ -9,3 +9,4 @@ pub mod Slice
 pub mod Some
 pub mod Once
 pub mod Same
+pub mod Parts

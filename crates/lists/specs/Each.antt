@@ -1,8 +1,8 @@
 -- What holds of each entry of a list, and lists without repetition.
 --
--- Each R xs   : R holds of each entry of xs
--- Distinct xs : no entry of xs stands in it twice
--- times j xs  : how often j stands in xs
+-- Each R xs        : R holds of each entry of xs
+-- Distinct xs      : no entry of xs stands in it twice
+-- times j xs       : how often j stands in xs
 -- ListsOnce n P xs : xs lists each number below n for which P holds once, and nothing else
 use mathlib.Core.Path.{_≡_}
 use mathlib.Core.Logic.{_≢_}

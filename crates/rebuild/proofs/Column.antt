@@ -19,7 +19,7 @@ use Rattle.document.specs.declared.Place.{Place}
 use Rattle.document.specs.Profile.{Accepted}
 use Rattle.document.specs.Places.{place}
 use Rattle.document.specs.Bytes.{bytes, Byte, byte}
-use Rattle.document.specs.Encoding.{constantOf, columnOf}
+use Rattle.document.specs.Encoding.{constantOf, columnOf, factorAt}
 use Rattle.document.specs.Plan.{rowAt, Walk, walkOf, chosenOver, nodesOver}
 use Rattle.document.specs.Rebuild.{rebuiltOver}
 use Rattle.document.proofs.Bytes.{byte-number}
@@ -27,7 +27,7 @@ use Rattle.document.proofs.Decides.{decides-false}
 use Rattle.document.proofs.Walks.{Sound, walk-sound}
 use Rattle.document.proofs.Chosen.{chosen-length, choice, outside, own-found}
 use Rattle.rebuild.specs.Folded.{foldedAt, foldedOf}
-use Rattle.rebuild.specs.Rows.{factorAt, memberAt, rowFrom}
+use Rattle.rebuild.specs.Rows.{memberAt, rowFrom}
 use Rattle.rebuild.specs.Column.{indexIn, rowOf, rowsOf, NodesOf}
 use Rattle.rebuild.proofs.Folded.{folded-single, folded-pair, folded-at}
 use Rattle.document.proofs.Planned.{off-is}

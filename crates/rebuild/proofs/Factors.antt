@@ -13,9 +13,6 @@ use Rattle.algebra.specs.Coupling.{pair}
 use Rattle.algebra.specs.Rows.{scale}
 use Rattle.algebra.proofs.Pick.{pick-yes, pick-no}
 use Rattle.algebra.proofs.Coupling.{
-  factor-diagonal,
-  factor-upper,
-  factor-lower,
   pair-diagonal,
   pair-upper,
   pair-lower,
@@ -26,26 +23,13 @@ use Rattle.document.specs.declared.Profile.{Profile}
 use Rattle.document.specs.declared.Node.{Node}
 use Rattle.document.specs.Profile.{Accepted}
 use Rattle.document.specs.Bytes.{bytes, number}
-use Rattle.document.specs.Encoding.{constantOf}
+use Rattle.document.specs.Encoding.{constantOf, factorAt}
 use Rattle.document.proofs.Bounds.{A>0}
-use Rattle.document.proofs.Bytes.{number-zero, number-one, number-byte, number-add}
-use Rattle.rebuild.specs.Rows.{factorAt, determinantAt, determinantsOf, ownScaleAt, scaleAt}
+use Rattle.document.proofs.Bytes.{number-one, number-byte, number-add}
+use Rattle.rebuild.specs.Rows.{determinantAt, determinantsOf, ownScaleAt, scaleAt}
 
 module _ (p : Profile) where
   open Profile p using (a as A, t)
-
-  -- ---- factors
-  pub factor-none : (i l : ℕ) → i ≡ l → 0 ≡ number (factorAt p i l)
-  factor-none i l e =
-      sym
-      (ap (λ (m : ℕ). number (factorAt p i m)) (sym e) ∙ ap number (factor-diagonal bytes (constantOf p) i)
-      ∙ number-zero)
-
-  pub factor-one : (i l : ℕ) → i < l → 1 ≡ number (factorAt p i l)
-  factor-one i l h = sym (ap number (factor-upper bytes (constantOf p) i l h) ∙ number-one)
-
-  pub factor-constant : (i l : ℕ) → l < i → number (constantOf p i l) ≡ number (factorAt p i l)
-  factor-constant i l h = sym (ap number (factor-lower bytes (constantOf p) i l h))
 
   -- ---- determinants
   pub determinant-none : (c l : ℕ) → c ≡ l → 1 ≡ number (pair bytes (factorAt p) c l)

@@ -16,10 +16,10 @@ use Rattle.document.specs.declared.Profile.{Profile}
 use Rattle.document.specs.declared.Node.{Node}
 use Rattle.document.specs.declared.Place.{Place}
 use Rattle.document.specs.Places.{partnerOf}
+use Rattle.document.specs.Encoding.{factorAt}
 use Rattle.document.specs.Bytes.{bytes, Byte, number}
 use Rattle.document.specs.Plan.{isOffDiagonal, rowAt}
 use Rattle.rebuild.specs.Folded.{foldedAt, foldedOf}
-use Rattle.rebuild.specs.Rows.{factorAt}
 
 module _ (p : Profile) (f : Node) (x : ℕ → Place → Byte) where
   open Profile p using (a as A, s as S)

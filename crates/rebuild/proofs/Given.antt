@@ -17,6 +17,7 @@ use Rattle.document.specs.declared.Node.{Node}
 use Rattle.document.specs.declared.Place.{Place}
 use Rattle.document.specs.Profile.{Accepted}
 use Rattle.document.specs.Places.{place, partnerOf}
+use Rattle.document.specs.Encoding.{factorAt}
 use Rattle.document.specs.Bytes.{Byte, byte, number}
 use Rattle.document.specs.Plan.{isOffDiagonal, rowAt, walkOf, nodesOver, planned, plannedAt}
 use Rattle.document.specs.Rebuild.{positionOf, givenAt}
@@ -29,7 +30,6 @@ use Rattle.plan.specs.Steps.{placesAt, placesOf}
 use Rattle.plan.proofs.Places.{single, pair, split-places}
 use Rattle.plan.proofs.Walked.{plan-places}
 use Rattle.rebuild.specs.Folded.{foldedOf, NodeAt}
-use Rattle.rebuild.specs.Rows.{factorAt}
 use Rattle.rebuild.proofs.Folded.{folded-single, folded-pair, folded-one}
 
 -- a node off the diagonal has another local column

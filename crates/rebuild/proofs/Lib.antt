@@ -4,6 +4,5 @@ pub mod Factors
 pub mod Coefficients
 pub mod Row
 pub mod Index
-pub mod Parts
 pub mod Column
 pub mod Answers

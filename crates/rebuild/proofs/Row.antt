@@ -22,9 +22,10 @@ use Rattle.strips.proofs.Added.{added-listed}
 use Rattle.coefficients.proofs.Combination.{sum-bytes}
 use Rattle.document.specs.declared.Profile.{Profile}
 use Rattle.document.specs.declared.Node.{Node}
+use Rattle.document.specs.Encoding.{factorAt}
 use Rattle.document.specs.Bytes.{bytes, byte, number}
 use Rattle.document.proofs.Bytes.{number-zero, number-add, number-mul, byte-number, byte-right}
-use Rattle.rebuild.specs.Rows.{factorAt, memberAt, ownScaleAt, coefficientAt, coefficientsOf}
+use Rattle.rebuild.specs.Rows.{memberAt, ownScaleAt, coefficientAt, coefficientsOf}
 use Rattle.rebuild.specs.Rows.{ownFrom, sumFrom, rowFrom}
 
 module _ (p : Profile) (f : Node) (i at : ℕ) where

@@ -16,10 +16,10 @@ use Rattle.document.specs.declared.Profile.{Profile}
 use Rattle.document.specs.declared.Node.{Node}
 use Rattle.document.specs.declared.Place.{Place}
 use Rattle.document.specs.Places.{localColumn, partnerOf}
+use Rattle.document.specs.Encoding.{factorAt}
 use Rattle.document.specs.Bytes.{bytes, Byte, number}
 use Rattle.document.specs.Plan.{isOffDiagonal, rowAt, planned, plannedAt}
 use Rattle.plan.specs.Steps.{placesAt}
-use Rattle.rebuild.specs.Rows.{factorAt}
 
 infixl 65 _⊕_
 infixl 70 _⊗_

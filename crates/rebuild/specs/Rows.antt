@@ -1,7 +1,6 @@
 -- By what the folded strips are multiplied, row by row of the lost column: the algebra's definitions over bytes, for a
 -- profile p and a lost node f. Here c is f's local column, and `nodes` the chosen nodes.
 --
--- factorAt p i l              : the factor of row i at local column l
 -- memberAt p f i              : node i of f's group
 -- determinantAt p f l         : the determinant of row c at local column l and its partner
 -- determinantsOf p f nodes    : for each chosen node the determinant at its local column
@@ -21,15 +20,12 @@ use lib.ListN.{length, getD}
 use Rattle.lists.specs.Listed.{listed}
 use Rattle.algebra.specs.Pick.{pick}
 use Rattle.algebra.specs.Sum.{sum}
-use Rattle.algebra.specs.Coupling.{partnerNode, pair, factor}
+use Rattle.algebra.specs.Coupling.{partnerNode, pair}
 use Rattle.algebra.specs.Rows.{scale, coefficient}
 use Rattle.document.specs.declared.Profile.{Profile}
 use Rattle.document.specs.declared.Node.{Node}
 use Rattle.document.specs.Bytes.{bytes, Byte, byte, number}
-use Rattle.document.specs.Encoding.{constantOf}
-
-abbrev pub factorAt : Profile → ℕ → ℕ → Byte
-factorAt p = factor bytes (constantOf p)
+use Rattle.document.specs.Encoding.{factorAt}
 
 unfoldable pub sumFrom : Profile → List ℕ → List ℕ → ℕ → Byte
 sumFrom p cs src b =

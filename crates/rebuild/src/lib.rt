@@ -9,6 +9,7 @@ ghost use Rattle.algebra.specs.Coupling.{factor};
 ghost use Rattle.strips.specs.Strips.{addedScaled};
 ghost use Rattle.document.specs.Bytes.{bytes, number};
 ghost use Rattle.document.specs.Profile.{Accepted};
+ghost use Rattle.document.specs.Encoding.{factorAt};
 ghost use Rattle.document.specs.Plan.{walkOf, chosenOver, nodesOver, planned};
 ghost use Rattle.document.specs.Rebuild.{givenAt, rebuiltOf, rebuildOf};
 ghost use Rattle.plan.specs.Steps.{placesAt};
@@ -16,7 +17,7 @@ ghost use Rattle.rebuild.specs.FromBundle.{fromBundle};
 ghost use Rattle.rebuild.specs.Folded.{foldedOf, StripsFit, NodeAt};
 ghost use Rattle.gf256.specs.Field.{quotientsOf, NoZero};
 ghost use Rattle.coefficients.specs.Weights.{Different, Outside, denominatorsOf, weightsOf};
-ghost use Rattle.rebuild.specs.Rows.{factorAt, memberAt, determinantAt, determinantsOf, ownScaleAt, scaleAt};
+ghost use Rattle.rebuild.specs.Rows.{memberAt, determinantAt, determinantsOf, ownScaleAt, scaleAt};
 ghost use Rattle.rebuild.specs.Rows.{coefficientsOf, rowFrom};
 ghost use Rattle.rebuild.specs.Column.{indexIn, rowOf, rowsOf, NodesOf};
 use document::Answer;
@@ -105,20 +106,6 @@ fn fold_strips(
     }
 }
 
-// The factor of row i at local column l.
-fn factor_at(p: Profile, i: usize, l: usize) -> u8
-    requires { ⌜ Accepted p ⌝ }
-    ensures { λ r. ⌜ r ≡ number (factorAt p i l) ⌝ }
-{
-    if i == l {
-        return 0;
-    }
-    if i < l {
-        return 1;
-    }
-    p.constant(Row(i), l)
-}
-
 // The determinant of f's row at local column l and its partner: one of the two factors is 1, or both are 0.
 fn determinant_at(p: Profile, f: Node, l: usize) -> u8
     requires { ⌜ Accepted p ⌝ }
@@ -152,7 +139,8 @@ fn own_scale(p: Profile, f: Node, i: usize) -> u8
     requires { ⌜ Accepted p ⌝ }
     ensures { λ r. ⌜ r ≡ number (ownScaleAt p f i) ⌝ }
 {
-    gf256::inverse(factor_at(p, f.0 % p.a, i))
+    let c = f.0 % p.a;
+    gf256::inverse(p.factor(Row(c), i))
 }
 
 // By what row c is multiplied for row i of the lost column.
@@ -164,7 +152,7 @@ fn scale(p: Profile, f: Node, i: usize) -> u8
     if i == c {
         return 1;
     }
-    own_scale(p, f, i) ^ factor_at(p, i, c)
+    own_scale(p, f, i) ^ p.factor(Row(i), c)
 }
 
 // The weights at the node `at`, each divided by the determinant of its node.

@@ -8,6 +8,8 @@
 -- strip j i v         : a field 03 for node j, row i with the strip v of one byte
 -- lent m              : a buffer of m bytes that is lent
 -- rebuilt f fields    : the outcome of a rebuild of node f from such a bundle
+-- surveyed t start B  : the outcome of a survey as one list: number, outcome (0 done, 1 failing, 2 open), position, sets
+--                       looked at, bytes
 -- marked              : the cases
 -- shown               : what the cases give is what document 01 says
 use mathlib.Core.Path.{_≡_, refl}
@@ -15,15 +17,20 @@ use mathlib.Core.List.{List, [], _∷_, _++_, map}
 use Prim.Native.Nat.{ℕ}
 use native.Mathlib.Decide.{ℕ-discrete, decLt}
 use lib.ListN.{take, drop, replicate}
-use Rattle.lists.specs.Listed.{listed, rising, all}
+use Rattle.lists.specs.Listed.{listed, patched, rising, all}
 use Rattle.lists.specs.Put.{slice, same}
 use Rattle.fields.specs.Fields.{twoBytes, fourBytes, opening}
-use Rattle.gf256.specs.Field.{_⊕_, _⊗_, double, bitProduct, raised, inverse}
+use Rattle.gf256.specs.Field.{_⊕_, _⊗_, double, bitProduct, squares, inverse}
 use Rattle.algebra.specs.Sum.{sum}
 use Rattle.algebra.specs.Weight.{weight}
+use Rattle.strips.specs.Strips.{addedScaled}
+use Rattle.square.specs.Steps.{filled, stepped, lifted, factorAt, pivotIn, unitLine, unitSquare}
+use Rattle.square.specs.Elimination.{endFrom}
+use Rattle.ksets.specs.Sets.{sets, setAt}
 use Rattle.document.specs.declared.Numbers.{Numbers}
+use Rattle.document.specs.declared.Surveyed.{Surveyed}
 use Rattle.document.specs.declared.Answer.{Answer}
-use Rattle.document.specs.Refusals.{tried, answerNumber, answerValue}
+use Rattle.document.specs.Refusals.{tried, numberOf, indexOf, answerNumber, answerValue}
 use Rattle.algebra.specs.Coupling.{base, factor}
 use Rattle.algebra.specs.Rebuild.{rowAt, otherAt, rebuiltAt}
 use Rattle.document.specs.Places.{samePlace}
@@ -68,6 +75,28 @@ use Rattle.document.specs.Plan.{
   planTests,
   planOf,
 }
+use Rattle.document.specs.Reading.{
+  listAccepted,
+  coefficientAt,
+  lineOf,
+  squareOf,
+  readingOf,
+  ambiguous,
+  readTests,
+  readOf,
+}
+use Rattle.document.specs.Survey.{
+  firstIn,
+  failsAt,
+  foundFrom,
+  resultOf,
+  surveyTests,
+  surveyOf,
+  surveyAnswer,
+  outcomeNumber,
+  positionIn,
+  lookedIn,
+}
 
 pub record Case : Type 0 where
   pub gives : List ℕ
@@ -107,7 +136,13 @@ lent m = replicate m 0xFF
 abbrev pub rebuilt : ℕ → List (List ℕ) → List ℕ
 rebuilt f fields = outcome (rebuildOf (profile 2) f (record { scenario = 7 }) (bundle f fields) (lent 2))
 
--- M1 to M9, in document 01's order.
+-- A survey of the profile with the coupling constant t.
+abbrev pub surveyed : ℕ → ℕ → ℕ → List ℕ
+surveyed t start B =
+    let o : Surveyed × List ℕ = surveyOf (profile t) start B (lent 2) in
+    answerNumber (surveyAnswer (o .0)) ∷ outcomeNumber (o .0) ∷ positionIn (o .0) ∷ lookedIn (o .0) ∷ o .1
+
+-- M1 to M12, in document 01's order.
 unfoldable pub marked : List Case
 marked =
     record { gives = 128 ⊗ 128 ∷ []; says = 19 ∷ [] }
@@ -137,15 +172,26 @@ marked =
       gives = outerColumns (encodeOf (profile 5) (0x00 ∷ 0x05 ∷ 0x01 ∷ 0x06 ∷ []) (lent 8));
       says = 0 ∷ 0 ∷ 0x00 ∷ 0x00 ∷ 0x00 ∷ 0x00 ∷ [];
     }
+    ∷ record {
+      gives = outcome (readOf (profile 5) (0 ∷ 3 ∷ []) (0x00 ∷ 0x00 ∷ 0x00 ∷ 0x00 ∷ []) (lent 4));
+      says = 10 ∷ 0 ∷ 0xFF ∷ 0xFF ∷ 0xFF ∷ 0xFF ∷ [];
+    }
+    ∷ record { gives = surveyed 5 0 6; says = 0 ∷ 1 ∷ 2 ∷ 3 ∷ 0x00 ∷ 0x03 ∷ [] }
+    ∷ record { gives = surveyed 2 0 6; says = 0 ∷ 0 ∷ 0 ∷ 6 ∷ 0xFF ∷ 0xFF ∷ [] }
+    ∷ record { gives = surveyed 2 0 2; says = 0 ∷ 2 ∷ 0 ∷ 2 ∷ 0xFF ∷ 0xFF ∷ [] }
+    ∷ record { gives = surveyed 2 0 0; says = 0 ∷ 2 ∷ 0 ∷ 0 ∷ 0xFF ∷ 0xFF ∷ [] }
+    ∷ record { gives = surveyed 2 6 0; says = 0 ∷ 0 ∷ 0 ∷ 0 ∷ 0xFF ∷ 0xFF ∷ [] }
     ∷ []
 
 -- Each marked case gives what document 01 says.
 pub shown : map (λ c. c .gives) marked ≡ map (λ c. c .says) marked
 unfolding marked lent encodeOf encodeTests profileTests shapeAccepted constantAccepted stripAccepted tried
     answerNumber answerValue encoded laidOut coupledAt constantOf baseAt byteAt start listed sum weight byte
-    number bytes _⊕_ _⊗_ double bitProduct raised inverse ℕ-discrete decLt planOf planTests planned planOver
+    number bytes _⊕_ _⊗_ double bitProduct squares inverse ℕ-discrete decLt planOf planTests planned planOver
     pairsAt planBytes isOwn isDiagonal isOffDiagonal rising rebuildOf rebuildTests bundleTests openedAt formed headed
     placed fresh placeIn recordingIn stripFieldStart plannedAt slice same all opening twoBytes fourBytes
     profileContent lostContent recordingBytes rebuiltOf rebuiltOver givenAt positionOf samePlace columnOf
-    rebuiltAt rowAt otherAt base factor
+    rebuiltAt rowAt otherAt base factor readOf readTests listAccepted numberOf indexOf ambiguous readingOf squareOf
+    lineOf coefficientAt endFrom pivotIn lifted stepped filled factorAt addedScaled patched unitSquare unitLine
+    surveyOf surveyTests resultOf foundFrom failsAt firstIn sets setAt surveyAnswer outcomeNumber positionIn lookedIn
 shown = refl

@@ -1,9 +1,10 @@
-// Runs document 01's samples and edges that concern the field, the profile, encoding, the plan, the bundle and the rebuild,
-// and prints what each gives. The file `stdout` says what document 01 says; the marked cases are shown in specs/Marked.antt besides.
+// Runs document 01's samples and edges, and prints what each gives. The file `stdout` says what document 01 says; the
+// marked cases are shown in specs/Marked.antt besides.
 ghost use Prim.Native.Nat.{_≤_, _<_};
 use document::Answer;
 use document::Numbers;
 use document::Recording;
+use document::Surveyed;
 use libc::STDOUT_FILENO;
 
 fn print(text: &[u8]) {
@@ -118,6 +119,63 @@ fn print_column(lost: usize) {
     print_rebuilt(lost, &bundle);
 }
 
+// M10: zeros read back from nodes 0 and 3 with t = 5.
+fn print_reading() {
+    let p = numbers(4, 2, 2, 5, 1);
+    let nodes = [0u8, 3];
+    let columns = [0u8; 4];
+    let mut output = [0xFFu8; 4];
+    let answer = reading::read_back(p, &nodes, &columns, &mut output);
+    match answer {
+        Answer::Done(_) => print_bytes(&output),
+        Answer::Refused(r) => {
+            print(b" refused with");
+            print_number(r.number());
+        }
+    }
+}
+
+fn print_looked(outcome: &[u8], looked: usize) {
+    print(outcome);
+    io::print_decimal(STDOUT_FILENO, looked as u64);
+}
+
+// M11, M12: a survey of (4,2,2), in document 01's words.
+fn print_survey(t: usize, start: usize, most: usize) {
+    let p = numbers(4, 2, 2, t, 1);
+    let mut set = [0xFFu8; 2];
+    let surveyed = survey::survey(p, start, most, &mut set);
+    match surveyed {
+        Surveyed::Failing(position, looked) => {
+            print_looked(b" failing at position ", position);
+            print(b", set");
+            print_bytes(&set);
+            print_looked(b", looked at ", looked);
+        }
+        Surveyed::Done(looked) => print_looked(b" done, ", looked),
+        Surveyed::Open(looked) => print_looked(b" open, ", looked),
+        Surveyed::Refused(r) => {
+            print(b" is");
+            print_number(r.number());
+        }
+    }
+    print(b"\n");
+}
+
+// The surveys of the marked samples.
+fn print_surveys() {
+    print(b"M11");
+    print_survey(5, 0, 6);
+    print(b"M12");
+    print_survey(2, 0, 6);
+    print(b"M12, B = 2");
+    print_survey(2, 0, 2);
+    print(b"M12, B = 0");
+    print_survey(2, 0, 0);
+    print(b"M12, start 6, B = 0");
+    print_survey(2, 6, 0);
+}
+
 // The bundle and one byte more.
 fn longer(bundle: &[u8; 57]) -> [u8; 58] {
     let mut long = [0u8; 58];
@@ -197,6 +255,8 @@ fn print_samples() {
     print_column(3);
     print(b"\nM9");
     zero_columns();
+    print(b"\nM10");
+    print_reading();
     print(b"\n");
 }
 
@@ -223,6 +283,7 @@ fn print_prices() {
 
 fn main() {
     print_samples();
+    print_surveys();
     print_bundle();
     print_edges();
     print_prices();

@@ -11,11 +11,11 @@ use Rattle.strips.proofs.Strip.{strip-all}
 use Rattle.document.specs.declared.Profile.{Profile}
 use Rattle.document.specs.Encoding.{baseAt, laidOut, plain}
 use Rattle.document.proofs.Bounds.{room, column-bound, array-bound}
-use Rattle.coefficients.specs.Weights.{denominatorsOf}
+use Rattle.coefficients.specs.Data.{dataNodes, dataDenominators}
 use Rattle.lists.proofs.Lent.{front-fits, front}
 use Rattle.coefficients.proofs.Lagrange.{denominators-length}
-use Rattle.encode.specs.Steps.{dataNodes}
-use Rattle.encode.proofs.Rows.{data-columns, data-length, first-columns, next-column, all-columns}
+use Rattle.coefficients.proofs.Data.{data-length}
+use Rattle.encode.proofs.Rows.{data-columns, first-columns, next-column, all-columns}
 use Rattle.encode.proofs.put_rows.Statement.{statement}
 use Rattle.encode.proofs.put_rows.Tie as tie
 
@@ -54,18 +54,21 @@ slice-aggregate-data-denominators c = sym (length-take-le _ _ (few (c .before .b
 
 data-denominators-requires : tie.Need-data-denominators-requires Inv-loop μ-loop
 data-denominators-requires c κs =
-    (few (c .before .before .before .before), sym (slice-aggregate-data-denominators c))
+    omega (arith, few (c .before .before .before .before), slice-aggregate-data-denominators c)
 
 -- the part of the array that was lent holds the denominators
 module _ (c : tie.After-data-denominators Inv-loop μ-loop) where
   abbrev k : ℕ
   k = c .before .before .before .before .before .args .p .k
 
-  written : length (c .data-denominators .last .1 .0) ≡ k
-  written = ap length (c .data-denominators .ensures) ∙ denominators-length (dataNodes k) ∙ data-length k
+  denominators : c .data-denominators .last .0 ≡ dataDenominators k
+  denominators = c .data-denominators .ensures ∙ ap dataDenominators (sym (slice-aggregate-data-denominators (c .before)))
 
-  lent : take k (c .data-denominators .last .1 .0 ++ drop k (replicate 24 0)) ≡ denominatorsOf (dataNodes k)
-  lent = front (c .data-denominators .last .1 .0) _ written ∙ c .data-denominators .ensures
+  written : length (c .data-denominators .last .0) ≡ k
+  written = ap length denominators ∙ denominators-length (dataNodes k) ∙ data-length k
+
+  lent : take k (c .data-denominators .last .0 ++ drop k (replicate 24 0)) ≡ dataDenominators k
+  lent = front (c .data-denominators .last .0) _ written ∙ denominators
 
 slice-relend-prefix-copy : tie.Need-slice-relend-prefix-copy Inv-loop μ-loop
 slice-relend-prefix-copy c =
@@ -151,7 +154,7 @@ part-put-parity-end c = inside c
 array-share-prefix-denominators : tie.Need-array-share-prefix-denominators Inv-loop μ-loop
 array-share-prefix-denominators c =
     let d = c .before .before .before .before .before .before .before .before in
-    front-fits (d .data-denominators .last .1 .0) _ (written d)
+    front-fits (d .data-denominators .last .0) _ (written d)
 
 slice-aggregate-put-parity : tie.Need-slice-aggregate-put-parity Inv-loop μ-loop
 slice-aggregate-put-parity c = sym (length-take-le _ _ (array-share-prefix-denominators (c .before)))

@@ -8,13 +8,13 @@ use borrow.Author.Needs.{needs}
 use lib.ListN.{length, getD, take, drop}
 use Rattle.strips.specs.Strips.{stripAt, addedScaled}
 use Rattle.strips.proofs.Strip.{strip-length, strip-part}
+use Rattle.document.specs.Encoding.{factorAt}
 use Rattle.document.specs.Bytes.{number}
 use Rattle.document.specs.Plan.{isOffDiagonal, planned}
 use Rattle.document.specs.Rebuild.{givenAt}
 use Rattle.document.proofs.Price.{planned-price}
 use Rattle.plan.specs.Steps.{inStep, placesAt}
 use Rattle.rebuild.specs.Folded.{foldedOf}
-use Rattle.rebuild.specs.Rows.{factorAt}
 use Rattle.rebuild.proofs.Given.{one-place, two-places, off-column, single-folded, pair-folded}
 use Rattle.rebuild.proofs.fold_strip.Statement.{statement}
 use Rattle.rebuild.proofs.fold_strip.Tie as tie

@@ -14,7 +14,7 @@ use Rattle.coefficients.proofs.Lagrange.{denominators-length}
 use Rattle.rebuild.specs.Rows.{determinantsOf}
 use Rattle.rebuild.specs.Column.{rowOf, rowsOf}
 use Rattle.rebuild.proofs.Factors.{determinants-length}
-use Rattle.rebuild.proofs.Parts.{parts, none-parts, next-part}
+use Rattle.lists.proofs.Parts.{parts, none-parts, next-part}
 use Rattle.rebuild.proofs.Column.{row-length}
 use Rattle.rebuild.proofs.put_rows.Statement.{statement}
 use Rattle.rebuild.proofs.put_rows.Tie as tie

@@ -15,15 +15,15 @@ returns c = let s = c .before .before .before in scale-lost (s .args .p) (s .arg
 own-scale-requires : tie.Need-own-scale-requires
 own-scale-requires c κs = search needs
 
-factor-at-requires : tie.Need-factor-at-requires
-factor-at-requires c κs = search needs
+factor-requires : tie.Need-factor-requires
+factor-requires c κs = search needs
 
 returns-2 : tie.Need-returns-2
 unfolding _⊕_
 returns-2 c =
     let s = c .before .before .before .before .before in
-    ap₂ _⊕_ (c .before .own-scale .ensures) (c .factor-at .ensures)
+    ap₂ _⊕_ (c .before .own-scale .ensures) (c .factor .ensures)
     ∙ scale-other (s .args .p) (s .args .f) (s .args .i) (c .before .before .if1 .left)
 
 pub scale-spec : {M : Type 1} → statement M
-scale-spec = tie.close (tie.spec rem-c returns own-scale-requires factor-at-requires returns-2)
+scale-spec = tie.close (tie.spec rem-c returns own-scale-requires factor-requires returns-2)

@@ -1,13 +1,14 @@
 -- Lists of one length w, one after the other: a loop that writes part after part.
 use mathlib.Core.Path.{_≡_, sym, ap, ap₂, _∙_}
 use mathlib.Core.List.{List, _++_, append-assoc}
-use Prim.Native.Nat.{ℕ, _+_, _*_, _/_, _%_}
-use native.Mathlib.Nat.{add-mul, zero-mul, one-mul}
-use lib.Arith.{digits-div, digits-mod}
-use lib.ListN.{length, getD, take}
-use lib.Seq.{take-at}
+use Prim.Native.Nat.{ℕ, _+_, _*_, _/_, _%_, _≤_, _<_}
+use native.Mathlib.Nat.{suc-mul, add-mul, zero-mul, one-mul, mul-le-mul-right}
+use native.Mathlib.Omega.{arith}
+use lib.Arith.{digits-div, digits-mod, digits-lt}
+use lib.ListN.{length, getD, take, drop, length-drop}
+use lib.Seq.{take-at, length-take-le, getD-take, getD-drop, ext-getD}
 use Rattle.lists.specs.Listed.{listed}
-use Rattle.lists.proofs.Listed.{listed-length, listed-ext, listed-add, listed-getD}
+use Rattle.lists.proofs.Listed.{listed-length, listed-at, listed-ext, listed-add, listed-getD}
 
 module _ (w : ℕ) (f : ℕ → List ℕ) where
   abbrev pub parts : ℕ → List ℕ
@@ -38,3 +39,21 @@ module _ (w : ℕ) (f : ℕ → List ℕ) where
         let more : take (i * w) xs ++ ys ≡ parts (i + 1) = ap₂ _++_ h e ∙ sym parts-next in
         ap (take ((i + 1) * w)) (sym (append-assoc (take (i * w) xs) ys rest))
         ∙ take-at (take (i * w) xs ++ ys) rest ((i + 1) * w) (ap length more ∙ listed-length ((i + 1) * w) _) ∙ more
+
+  -- part j of m parts
+  pub part-at : (m j : ℕ) → j < m → length (f j) ≡ w → take w (drop (j * w) (parts m)) ≡ f j
+  part-at m j h size =
+      ext-getD 0 _ (f j) (long ∙ sym size)
+      (λ b l.
+      let k : b < w = omega (arith, l, long) in
+      getD-take w (drop (j * w) (parts m)) b 0 k ∙ getD-drop (j * w) (parts m) b 0
+      ∙ listed-at (m * w) (λ o. getD (f (o / w)) (o % w) 0) (j * w + b) 0 (digits-lt h k)
+      ∙ ap₂ (λ (y o : ℕ). getD (f y) o 0) (digits-div j k) (digits-mod j k))
+    where
+      inside : j * w + w ≤ m * w
+      inside = rw suc-mul at (mul-le-mul-right w h)
+
+      long : length (take w (drop (j * w) (parts m))) ≡ w
+      long =
+          length-take-le w (drop (j * w) (parts m))
+          (rw length-drop (omega (arith, listed-length (m * w) (λ o. getD (f (o / w)) (o % w) 0), inside)))

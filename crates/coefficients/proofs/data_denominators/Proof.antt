@@ -1,16 +1,18 @@
--- `encode::data_denominators` meets its contract: the front of the first nodes is the data nodes, which differ.
+-- `coefficients::data_denominators` meets its contract: the front of the first nodes is the data nodes, which differ.
 use mathlib.Core.Path.{_≡_, sym, ap, subst, _∙_}
 use borrow.Author.Needs.{needs}
+use Prim.Native.Nat.{ℕ}
 use lib.ListN.{length, take}
 use Rattle.coefficients.specs.Weights.{Different, denominatorsOf}
-use Rattle.encode.specs.Steps.{dataNodes}
-use Rattle.encode.proofs.Rows.{data-nodes, data-length, data-different}
-use Rattle.encode.proofs.data_denominators.Statement.{statement}
-use Rattle.encode.proofs.data_denominators.Tie as tie
+use Rattle.coefficients.specs.Data.{dataNodes}
+use Rattle.coefficients.proofs.Data.{data-nodes, data-length, data-different}
+use Rattle.coefficients.proofs.data_denominators.Statement.{statement}
+use Rattle.coefficients.proofs.data_denominators.Tie as tie
 
 nodes : (c : tie.After-first-nodes)
-    → take (c .before .before .args .k) (c .first-nodes .result) ≡ dataNodes (c .before .before .args .k)
-nodes c = data-nodes (c .before .before .args .k) (c .first-nodes .ensures) (c .before .before .pre .0)
+    → let k : ℕ = length (c .before .before .args .out .now) in
+    take k (c .first-nodes .result) ≡ dataNodes k
+nodes c = data-nodes _ (c .first-nodes .ensures) (c .before .before .pre)
 
 first-nodes-requires : tie.Need-first-nodes-requires
 first-nodes-requires c κs = search needs
@@ -23,11 +25,9 @@ slice-aggregate-denominators c = sym (ap length (nodes (c .before)) ∙ data-len
 
 denominators-requires : tie.Need-denominators-requires
 denominators-requires c κs =
-    let e = nodes (c .before .before) in
-    let s = c .before .before .before .before in (
-      subst Different (sym e) (data-different (s .args .k) (s .pre .0)),
-      s .pre .1 ∙ sym (ap length e ∙ data-length (s .args .k)),
-    )
+    let e = sym (nodes (c .before .before)) in
+    let s = c .before .before .before .before in
+    (subst Different e (data-different _ (s .pre)), sym (data-length _) ∙ ap length e)
 
 same-length : tie.Need-same-length
 same-length c = search needs

@@ -1,0 +1,54 @@
+-- Demand 2, the rest: 'Reading back from k named drives returns the only data whose array has those columns. A request in
+-- due form is refused exactly when some two different data sets give equal columns on those drives.'
+--
+-- InDueForm p nodes x y  : the request is in due form: profile, list and lengths
+-- OnlyData p nodes x d   : d are data whose array has the columns x on the named nodes, and no other data have them
+-- Demand2Read p nodes x y : what demand 2 says of one call, for the columns x and the buffer y
+-- Demand2Reading         : for all numbers, lists and bytes. Shown in proofs/Demand2Reading.antt: demand-2-reading
+--
+-- The words it uses, from document/specs/Reading.antt:
+-- joinedColumns p nodes x : the columns of the array x at the named nodes, joined in list order
+-- TwoData p nodes         : some two different data give equal columns on the named nodes
+-- Rising n k nodes        : nodes are k strictly rising numbers below n
+use mathlib.Core.Path.{_≡_}
+use mathlib.Core.Logic.{_↔_}
+use mathlib.Core.List.{List}
+use Prim.Native.Nat.{ℕ, _*_, _<_}
+use lib.ListN.{length, getD}
+use Rattle.ksets.specs.Sets.{Rising}
+use Rattle.document.specs.declared.Numbers.{Numbers}
+use Rattle.document.specs.declared.Profile.{Profile}
+use Rattle.document.specs.Refusals.{answerNumber, answerValue}
+use Rattle.document.specs.Profile.{Accepted, profileOf}
+use Rattle.document.specs.Encoding.{Data, encoded}
+use Rattle.document.specs.Reading.{joinedColumns, TwoData, readOf}
+
+-- None of the refusals 1 to 5 applies.
+pub record InDueForm (p : Numbers) (nodes x y : List ℕ) : Type 0 where
+  pub profile : Accepted (profileOf p)
+  pub list : Rising (p .n) (p .k) nodes
+  pub columns : length x ≡ p .k * p .a * p .s
+  pub output : length y ≡ p .k * p .a * p .s
+
+-- 'the only data whose array has those columns'
+pub record OnlyData (p : Profile) (nodes x d : List ℕ) : Type 0 where
+  pub are-data : Data p d
+  pub columns : joinedColumns p nodes (encoded p d) ≡ x
+  pub only : (c : List ℕ) → Data p c → joinedColumns p nodes (encoded p c) ≡ x → c ≡ d
+
+pub record Demand2Read (p : Numbers) (nodes x y : List ℕ) : Type 0 where
+  -- 'returns the only data whose array has those columns'; 'On success the answer is 0, with .. 0 otherwise'
+  pub returns : answerNumber (readOf p nodes x y .0) ≡ 0
+      → (answerValue (readOf p nodes x y .0) ≡ 0) × OnlyData (profileOf p) nodes x (readOf p nodes x y .1)
+  -- 'A request in due form is refused exactly when some two different data sets give equal columns on those drives.'
+  pub refused : InDueForm p nodes x y → (answerNumber (readOf p nodes x y .0) ≡ 10) ↔ TwoData (profileOf p) nodes
+  -- It is answered otherwise.
+  pub answered : InDueForm p nodes x y → (answerNumber (readOf p nodes x y .0) ≡ 0) ↔ (TwoData (profileOf p) nodes → ⊥)
+  -- 'whatever bytes the lent columns hold': the answer turns on no byte that was lent.
+  pub bytes-apart : (u v : List ℕ) → length u ≡ length x → length v ≡ length y
+      → readOf p nodes u v .0 ≡ readOf p nodes x y .0
+
+-- The columns that are lent are bytes.
+abbrev pub Demand2Reading : Type 0
+Demand2Reading =
+    (p : Numbers) (nodes x y : List ℕ) → ((e : ℕ) → e < length x → getD x e 0 < 256) → Demand2Read p nodes x y

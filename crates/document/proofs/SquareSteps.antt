@@ -1,0 +1,226 @@
+-- A coefficient square of bytes as a matrix over them, and its steps as those of the matrix.
+--
+-- matrix s        : the lines of s as a matrix over the bytes
+-- Small s         : each entry of s is a byte
+-- Shaped m w s    : s has at least m lines, those with at least w entries, and all entries are bytes
+-- Companion m t   : t has at least m lines of at least m entries, bytes all, and begins with the unit matrix
+-- Taken c p m s b : b comes from s by adding c i times line p to each line i below m
+use mathlib.Core.Path.{_≡_, refl, sym, ap, ap₂, _∙_}
+use mathlib.Core.Logic.{_≢_}
+use mathlib.Core.Bool.{Bool, true, false, cond}
+use mathlib.Core.List.{List, []}
+use Prim.Native.Nat.{ℕ, _≤_, _<_}
+use native.Mathlib.Decide.{ℕ-discrete, decLt}
+use native.Mathlib.Omega.{arith}
+use lib.Dec.{eqb}
+use lib.ListN.{length, getD, set, length-set, List·getD-eq-default}
+use lib.Seq.{getD-set-same, getD-set-other}
+use borrow.Author.Tests.{eq-eqb, ne-eqb}
+use Rattle.lists.proofs.Listed.{listed-length, listed-at}
+use Rattle.gf256.specs.Field.{_⊕_, _⊗_, inverse}
+use Rattle.gf256.proofs.Ring.{add-lt, mul-lt, inverse-lt}
+use Rattle.algebra.specs.Square.{unit, Step, coefficient}
+use Rattle.algebra.proofs.Square.{unit-at, unit-off}
+use Rattle.algebra.proofs.Elimination.{coefficient-at, coefficient-off}
+use Rattle.strips.specs.Strips.{addedScaled}
+use Rattle.square.specs.declared.Line.{Line}
+use Rattle.square.specs.Steps.{noLine, lineAt, entry, stepped, lifted, factorAt, unitLine, unitSquare}
+use Rattle.square.proofs.Steps.{added-length, added-at, added-none, stepped-length, stepped-at, stepped-rest}
+use Rattle.document.specs.Bytes.{bytes, Byte, byte}
+use Rattle.document.proofs.Bytes.{byte-zero, byte-one, byte-add, byte-mul, byte-inv, byte-ne, byte-one-one}
+
+unfoldable pub matrix : List Line → ℕ → ℕ → Byte
+matrix s i j = byte (entry s i j)
+
+abbrev pub Small : List Line → Type 0
+Small s = (i j : ℕ) → entry s i j < 256
+
+pub record Shaped (m w : ℕ) (s : List Line) : Type 0 where
+  pub long : m ≤ length s
+  pub wide : (i : ℕ) → i < m → w ≤ length (lineAt s i)
+  pub small : Small s
+
+pub record Companion (m : ℕ) (t : List Line) : Type 0 where
+  pub shape : Shaped m m t
+  pub begins : (i j : ℕ) → i < m → j < m → matrix t i j ≡ unit bytes i j
+
+-- Where the matrices of two squares agree, their entries do.
+pub entry-same : (s s′ : List Line) → Small s → Small s′ → (i j : ℕ) → matrix s i j ≡ matrix s′ i j
+    → entry s i j ≡ entry s′ i j
+unfolding matrix
+entry-same s s′ small small′ i j e = byte-one-one (entry s i j) (entry s′ i j) (small i j) (small′ i j) e
+
+-- A zero of the square is one of the matrix.
+pub matrix-zero : (s : List Line) (i j : ℕ) → entry s i j ≡ 0 → matrix s i j ≡ bytes .𝟘
+unfolding matrix
+matrix-zero s i j e = ap byte e ∙ byte-zero
+
+-- Any other entry is none.
+pub matrix-nonzero : (s : List Line) → Small s → (i j : ℕ) → entry s i j ≢ 0 → matrix s i j ≢ bytes .𝟘
+unfolding matrix
+matrix-nonzero s small i j n = byte-ne (entry s i j) (small i j) n
+
+-- The bytes of 1 at r and 0 elsewhere are the unit vector.
+pub unit-factor : (r i : ℕ) → byte (cond (eqb i r) 1 0) ≡ unit bytes r i
+unit-factor r i = go (ℕ-discrete i r)
+  where
+    go : Dec (i ≡ r) → byte (cond (eqb i r) 1 0) ≡ unit bytes r i
+    go (yes e) = rw (eq-eqb i r e) (byte-one ∙ sym (rw e (unit-at bytes r)))
+    go (no n) = rw (ne-eqb i r n) (byte-zero ∙ sym (unit-off bytes r i n))
+
+-- ---- the unit square
+module _ (q : ℕ) where
+  -- It has q lines.
+  pub unit-square-length : length (unitSquare q) ≡ q
+  unfolding unitSquare
+  unit-square-length = listed-length q (λ i. record { c = unitLine q i })
+
+  -- Its lines.
+  pub unit-square-at : (r : ℕ) → r < q → lineAt (unitSquare q) r ≡ unitLine q r
+  unfolding unitSquare
+  unit-square-at r h = ap (λ (x : Line). x .c) (listed-at q (λ i. record { c = unitLine q i }) r noLine h)
+
+  -- There is none past them.
+  pub unit-square-none : (r : ℕ) → q ≤ r → lineAt (unitSquare q) r ≡ []
+  unit-square-none r h =
+      let short : length (unitSquare q) ≤ r = omega (arith, unit-square-length) in
+      ap (λ (x : Line). x .c) (List·getD-eq-default (unitSquare q) noLine short)
+
+  -- Each has q entries.
+  pub unit-line-length : (r : ℕ) → length (unitLine q r) ≡ q
+  unfolding unitLine
+  unit-line-length r = listed-length q (λ j. cond (eqb j r) 1 0)
+
+  -- In line r there is 1 at r, and 0 elsewhere.
+  pub unit-line-at : (r j : ℕ) → j < q → getD (unitLine q r) j 0 ≡ cond (eqb j r) 1 0
+  unfolding unitLine
+  unit-line-at r j h = listed-at q (λ j. cond (eqb j r) 1 0) j 0 h
+
+  -- So its entries are bytes.
+  unit-line-small : (r j : ℕ) → getD (unitLine q r) j 0 < 256
+  unit-line-small r j = go (decLt j q)
+    where
+      bit : (b : Bool) → cond b 1 0 < 256
+      bit true = omega arith
+      bit false = omega arith
+
+      go : Dec (j < q) → getD (unitLine q r) j 0 < 256
+      go (yes h) = rw (unit-line-at r j h) (bit (eqb j r))
+      go (no h) =
+          let short : length (unitLine q r) ≤ j = omega (arith, unit-line-length r) in
+          rw (List·getD-eq-default (unitLine q r) 0 short) (omega arith)
+
+  -- All of the square's are.
+  pub unit-square-small : Small (unitSquare q)
+  unit-square-small i j = go (decLt i q)
+    where
+      go : Dec (i < q) → entry (unitSquare q) i j < 256
+      go (yes h) = rw (unit-square-at i h) (unit-line-small i j)
+      go (no h) = rw (unit-square-none i (omega arith)) (omega arith)
+
+-- The unit square of q ≥ m lines is a companion of a square of m lines.
+pub unit-square : {m : ℕ} (q : ℕ) → m ≤ q → Companion m (unitSquare q)
+unfolding matrix
+unit-square q l = record {
+  shape = record {
+    long = omega (arith, unit-square-length q);
+    wide = λ i h. rw (unit-square-at q i (omega arith), unit-line-length) l;
+    small = unit-square-small q;
+  };
+  begins = λ i j h k.
+      ap (λ (x : List ℕ). byte (getD x j 0)) (unit-square-at q i (omega arith))
+      ∙ ap byte (unit-line-at q i j (omega arith)) ∙ unit-factor i j;
+}
+
+-- ---- a step
+-- A multiple of a line added to a line of bytes leaves bytes.
+added-small : (f : ℕ) (ys xs : List ℕ) → ((j : ℕ) → getD xs j 0 < 256)
+    → (j : ℕ) → getD (addedScaled f 0 ys xs) j 0 < 256
+added-small f ys xs small j = go (decLt j (length xs))
+  where
+    go : Dec (j < length xs) → getD (addedScaled f 0 ys xs) j 0 < 256
+    go (yes h) = rw (added-at f ys xs j h) (add-lt (small j) (mul-lt f (getD ys j 0)))
+    go (no h) =
+        let short : length (addedScaled f 0 ys xs) ≤ j = omega (arith, added-length f ys xs) in
+        rw (List·getD-eq-default (addedScaled f 0 ys xs) 0 short) (omega arith)
+
+-- b comes from s by adding c i times line p to each line i below m.
+pub record Taken (c : ℕ → ℕ) (p m : ℕ) (s b : List Line) : Type 0 where
+  pub size : length b ≡ length s
+  pub line : (i : ℕ) → i < m → lineAt b i ≡ addedScaled (c i) 0 (lineAt s p) (lineAt s i)
+  pub rest : (i : ℕ) → m ≤ i → lineAt b i ≡ lineAt s i
+
+module _ {c : ℕ → ℕ} {p m w : ℕ} {s b : List Line} (t : Taken c p m s b) (S : Shaped m w s) where
+  -- The shape stays.
+  pub taken-shaped : Shaped m w b
+  taken-shaped = record {
+    long = omega (arith, t .size, S .long);
+    wide = λ i h. rw (t .line i h, added-length) (S .wide i h);
+    small = λ i j. go i j (decLt i m);
+  }
+    where
+      go : (i j : ℕ) → Dec (i < m) → entry b i j < 256
+      go i j (yes h) = rw (t .line i h) (added-small (c i) (lineAt s p) (lineAt s i) (S .small i) j)
+      go i j (no h) = rw (t .rest i (omega arith)) (S .small i j)
+
+  -- Of the matrices it is a step, by the bytes of the factors.
+  pub taken-step : (f : ℕ → Byte) → ((i : ℕ) → i < m → byte (c i) ≡ f i) → Step bytes m w p f (matrix s) (matrix b)
+  unfolding matrix
+  taken-step f e i j h k =
+      ap byte
+      (ap (λ (x : List ℕ). getD x j 0) (t .line i h)
+      ∙ added-at (c i) (lineAt s p) (lineAt s i) j (omega (arith, S .wide i h)))
+      ∙ byte-add (entry s i j) (c i ⊗ entry s p j) (S .small i j) (mul-lt (c i) (entry s p j))
+      ∙ ap (bytes .add (byte (entry s i j)))
+      (byte-mul (c i) (entry s p j) ∙ ap (λ (x : Byte). bytes .mul x (byte (entry s p j))) (e i h))
+
+-- The step of the whole square is one.
+pub stepped-taken : (c : ℕ → ℕ) (p m : ℕ) (s : List Line) → m ≤ length s → Taken c p m s (stepped c p s m)
+stepped-taken c p m s l = record {
+  size = stepped-length c p s m;
+  line = λ i h. stepped-at c p s m i h l;
+  rest = λ i h. stepped-rest c p s m i h;
+}
+
+-- A pivot in line r itself needs no step.
+pub lifted-same : (r p : ℕ) (s : List Line) → p ≡ r → lifted r p s ≡ s
+unfolding lifted
+lifted-same r p s e = rw (eq-eqb p r e)
+
+-- A lower line added to line r is one too: with the factor 1 there, and 0 elsewhere.
+pub lifted-taken : (r p m : ℕ) (s : List Line) → p ≢ r → r < m → m ≤ length s
+    → Taken (λ i. cond (eqb i r) 1 0) p m s (lifted r p s)
+unfolding lifted
+lifted-taken r p m s n h l =
+    rw (ne-eqb p r n) record {
+      size = length-set s r _;
+      line = λ i k. line i (ℕ-discrete i r);
+      rest = λ i k. ap (λ (x : Line). x .c) (getD-set-other s r i _ noLine (omega arith));
+    }
+  where
+    line : (i : ℕ) → Dec (i ≡ r)
+        → lineAt (set s r (record { c = addedScaled 1 0 (lineAt s p) (lineAt s r) })) i
+        ≡ addedScaled (cond (eqb i r) 1 0) 0 (lineAt s p) (lineAt s i)
+    line i (yes e) =
+        rw (eq-eqb i r e) (rw e (ap (λ (x : Line). x .c) (getD-set-same s r _ noLine (omega arith))))
+    line i (no d) =
+        rw (ne-eqb i r d) (ap (λ (x : Line). x .c) (getD-set-other s r i _ noLine d)
+        ∙ sym (added-none 0 (lineAt s p) (lineAt s i) refl))
+
+-- The bytes of the factors that clear a column are the algebra's coefficients.
+pub clear-factor : (b : List Line) (r i : ℕ) → Small b → byte (factorAt b r r i) ≡ coefficient bytes r (matrix b) i
+unfolding factorAt matrix
+clear-factor b r i small = go (ℕ-discrete i r)
+  where
+    go : Dec (i ≡ r)
+        → byte (cond (eqb i r) (1 ⊕ inverse (entry b r r)) (inverse (entry b r r) ⊗ entry b i r))
+        ≡ coefficient bytes r (matrix b) i
+    go (yes e) =
+        rw (eq-eqb i r e, e) (byte-add 1 (inverse (entry b r r)) (omega arith) (inverse-lt (entry b r r))
+        ∙ ap₂ (bytes .add) byte-one (byte-inv (entry b r r) (small r r))
+        ∙ sym (coefficient-at bytes r (matrix b)))
+    go (no n) =
+        rw (ne-eqb i r n) (byte-mul (inverse (entry b r r)) (entry b i r)
+        ∙ bytes .mul-comm (byte (inverse (entry b r r))) (byte (entry b i r))
+        ∙ ap (bytes .mul (byte (entry b i r))) (byte-inv (entry b r r) (small r r))
+        ∙ sym (coefficient-off bytes r (matrix b) i n))

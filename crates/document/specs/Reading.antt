@@ -1,0 +1,134 @@
+-- 'Reading back': the data from the columns of k named nodes.
+--
+-- listAccepted n k b nodes  : the test whether nodes are k strictly rising numbers from b on, below n
+-- coefficientAt p q r       : by what the data symbol at the place r is multiplied in the symbol stored at q
+-- dataPlace p e             : the place of data symbol e, counted row by row
+-- dataIndex p q             : the number of the data symbol at the place q, counted so
+-- joinedPlace p nodes z     : the place of strip z of the named nodes' columns joined in list order
+-- joinedColumns p nodes x   : those columns of the array x
+-- TwoData p nodes           : some two different data give equal columns on the named nodes
+-- lineOf p q                : the coefficients of all data symbols in what is stored at the place q
+-- squareOf p nodes          : the coefficient square: a line for each strip of the joined columns
+-- readingOf p nodes         : its elimination, with the unit square as companion
+-- ambiguous p nodes         : the test of refusal 10
+-- inverseOf p nodes         : the lines of the inverse; where the test of refusal 10 holds there is none
+-- dataFrom p nodes x        : the data read back from the joined columns x
+-- readTests p nodes x y     : the refusals of reading back, in their order
+-- readOf p nodes x y        : reading back the columns x of the named nodes into y: the answer, and what y holds then
+--
+-- From `square`: eliminated rows columns s t is how the elimination of s with the companion t ends, with `whole` and the
+-- companion if each column has a pivot. That the test is true exactly where some two different data give equal columns,
+-- and that the data read back are otherwise the only ones with these columns, is demand 2.
+use mathlib.Core.Path.{_≡_}
+use mathlib.Core.Logic.{_≢_}
+use mathlib.Core.Bool.{Bool, true, false, _&&_, not}
+use mathlib.Core.List.{List, [], _∷_, _++_}
+use Prim.Native.Nat.{ℕ, zero, suc, _+_, _*_, _/_, _%_}
+use native.Mathlib.Decide.{ℕ-discrete}
+use lib.Dec.{eqb, leb, ltb}
+use lib.ListN.{length, getD}
+use Rattle.lists.specs.Listed.{listed}
+use Rattle.algebra.specs.Field.{Field}
+use Rattle.algebra.specs.Pick.{pick}
+use Rattle.algebra.specs.Sum.{sum}
+use Rattle.algebra.specs.Weight.{weight}
+use Rattle.square.specs.declared.Line.{Line}
+use Rattle.square.specs.Steps.{entry, unitSquare}
+use Rattle.square.specs.Elimination.{Ended, whole, stuck, eliminated, singular}
+use Rattle.document.specs.declared.Numbers.{Numbers}
+use Rattle.document.specs.declared.Profile.{Profile}
+use Rattle.document.specs.declared.Place.{Place}
+use Rattle.document.specs.declared.Refusal.the-variants.{OutOfRange, BufferLength, Ambiguous}
+use Rattle.document.specs.declared.Answer.{Answer}
+use Rattle.document.specs.declared.Answer.the-variants.{Done, Refused}
+use Rattle.document.specs.Refusals.{Test, tried}
+use Rattle.document.specs.Profile.{profileTests, profileOf}
+use Rattle.document.specs.Places.{place}
+use Rattle.document.specs.Bytes.{bytes, Byte, byte, number}
+use Rattle.document.specs.Encoding.{byteAt, coupledAt, laidOut, Data, encoded}
+
+infixl 70 _⊗_
+open Field bytes using (𝟘, mul as _⊗_)
+
+-- 'node list not k strictly rising numbers below n'
+unfoldable pub listAccepted : ℕ → ℕ → ℕ → List ℕ → Bool
+listAccepted n zero b [] = true
+listAccepted n zero b (x ∷ xs) = false
+listAccepted n (suc k) b [] = false
+listAccepted n (suc k) b (x ∷ xs) = leb b x && (ltb x n && listAccepted n k (suc x) xs)
+
+module _ (p : Profile) where
+  open Profile p using (k, a as A, s as S)
+
+  -- What is stored at q for the data that are 1 at r and 0 elsewhere: in r's row each base symbol is the weight of r's
+  -- node there, in the other rows all are 0. Each stored symbol is the sum of the data symbols times these.
+  unfoldable pub coefficientAt : Place → Place → Byte
+  coefficientAt q r =
+      coupledAt p
+      (λ u. pick (ℕ-discrete (u .row .0) (r .row .0)) (weight bytes k byte (r .node .0) (byte (u .node .0))) 𝟘) q
+
+  -- The k symbols of a row stand together: they fix one polynomial.
+  abbrev pub dataPlace : ℕ → Place
+  dataPlace e = place (e % k) (e / k)
+
+  abbrev pub dataIndex : Place → ℕ
+  dataIndex q = q .row .0 * k + q .node .0
+
+  -- 'those nodes' columns joined in list order'; 'a node's column is its A strips, row 0 first': the m-th named node
+  -- stands where node m would stand in memory.
+  abbrev pub joinedPlace : List ℕ → ℕ → Place
+  joinedPlace nodes z = place (getD nodes (z / A) 0) (z % A)
+
+  unfoldable pub joinedColumns : List ℕ → List ℕ → List ℕ
+  joinedColumns nodes x = laidOut p k (λ b q. byteAt p x b (place (getD nodes (q .node .0) 0) (q .row .0)))
+
+  -- 'some two different data give equal columns on these nodes'
+  pub record TwoData (nodes : List ℕ) : Type 0 where
+    pub first : List ℕ
+    pub second : List ℕ
+    pub first-data : Data p first
+    pub second-data : Data p second
+    pub differ : first ≢ second
+    pub alike : joinedColumns nodes (encoded p first) ≡ joinedColumns nodes (encoded p second)
+
+  unfoldable pub lineOf : Place → Line
+  lineOf q = record { c = listed (k * A) (λ e. number (coefficientAt q (dataPlace e))) }
+
+  -- 'The coefficient square of one reading, at most 80 by 80 field elements'
+  unfoldable pub squareOf : List ℕ → List Line
+  squareOf nodes = listed (k * A) (λ z. lineOf (joinedPlace nodes z))
+
+  unfoldable pub readingOf : List ℕ → Ended
+  readingOf nodes = eliminated (k * A) (k * A) (squareOf nodes) (unitSquare (k * A))
+
+  -- The test of it: 'whatever bytes the lent columns hold', which are not looked at.
+  unfoldable pub ambiguous : List ℕ → Bool
+  ambiguous nodes = singular (readingOf nodes)
+
+  abbrev pub inverseIn : Ended → List Line
+  inverseIn (whole t) = t
+  inverseIn (stuck r a) = []
+
+  unfoldable pub inverseOf : List ℕ → List Line
+  inverseOf nodes = inverseIn (readingOf nodes)
+
+  -- Each data symbol is the sum of the joined columns' symbols at its byte offset, times its line of the inverse.
+  unfoldable pub dataFrom : List ℕ → List ℕ → List ℕ
+  dataFrom nodes x =
+      laidOut p k
+      (λ b q. sum bytes (k * A) (λ z. byte (entry (inverseOf nodes) (dataIndex q) z) ⊗ byte (getD x (z * S + b) 0)))
+
+-- The refusals of reading back: 1, 2, 3, then 4 for the list, 5 for columns or data not of kAS bytes, 10.
+unfoldable pub readTests : Numbers → List ℕ → List ℕ → List ℕ → List Test
+readTests p nodes x y =
+    profileTests p
+    ++ (record { refusal = OutOfRange; holds = not (listAccepted (p .n) (p .k) 0 nodes) }
+    ∷ record {
+      refusal = BufferLength;
+      holds = not (eqb (length x) (p .k * p .a * p .s) && eqb (length y) (p .k * p .a * p .s));
+    }
+    ∷ record { refusal = Ambiguous; holds = ambiguous (profileOf p) nodes }
+    ∷ [])
+
+unfoldable pub readOf : Numbers → List ℕ → List ℕ → List ℕ → Answer × List ℕ
+readOf p nodes x y = tried (readTests p nodes x y) (λ r. (Refused r, y)) (Done 0, dataFrom (profileOf p) nodes x)

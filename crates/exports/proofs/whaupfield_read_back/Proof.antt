@@ -1,0 +1,28 @@
+-- `exports::whaupfield_read_back` meets its contract: the answer of reading back, packed.
+use mathlib.Core.Path.{ap, _∙_}
+use Prim.Native.Nat.{ℕ}
+use native.Mathlib.Omega.{arith}
+use borrow.Author.Needs.{needs}
+use Rattle.document.proofs.Values.{read-value}
+use Rattle.exports.specs.Packed.{packedWith}
+use Rattle.exports.proofs.Values.{packable}
+use Rattle.exports.proofs.whaupfield_read_back.Statement.{statement}
+use Rattle.exports.proofs.whaupfield_read_back.Tie as tie
+
+read-back-requires : tie.Need-read-back-requires
+read-back-requires c κs = search needs
+
+pack-requires : tie.Need-pack-requires
+pack-requires c κs =
+    packable _ _ _ (c .before .before .read-back .ensures) 0 (omega arith) (read-value _ _ _ _)
+
+same-length : tie.Need-same-length
+same-length c = search needs
+
+returns : tie.Need-returns
+returns c =
+    let e = c .before .before .before in
+    ap (λ (n : ℕ). (n, e .read-back .last .1 .1 .1 .0)) (c .pack .ensures) ∙ ap packedWith (e .read-back .ensures)
+
+pub whaupfield-read-back-spec : {M : Type 1} → statement M
+whaupfield-read-back-spec = tie.close (tie.spec read-back-requires pack-requires same-length returns)

@@ -1,0 +1,33 @@
+-- `exports::whaupfield_survey` meets its contract: the answer of a survey, packed.
+use mathlib.Core.Path.{_≡_, sym, ap, _∙_}
+use mathlib.Core.List.{List}
+use Prim.Native.Nat.{ℕ}
+use native.Mathlib.Omega.{arith}
+use borrow.Author.Needs.{needs}
+use Rattle.document.specs.declared.Surveyed.{Surveyed}
+use Rattle.document.proofs.Values.{Counted, survey-counted}
+use Rattle.exports.specs.Packed.{packedSurveyWith}
+use Rattle.exports.proofs.whaupfield_survey.Statement.{statement}
+use Rattle.exports.proofs.whaupfield_survey.Tie as tie
+
+survey-requires : tie.Need-survey-requires
+survey-requires c κs = search needs
+
+pack-survey-requires : tie.Need-pack-survey-requires
+pack-survey-requires c κs =
+    let e = c .before .before in
+    let k : Counted (e .survey .result) =
+    rw (ap (λ (o : Surveyed × List ℕ). o .0) (e .survey .ensures)) (survey-counted _ _ _ _) in
+    (omega (arith, k .position), omega (arith, k .looked))
+
+same-length : tie.Need-same-length
+same-length c = search needs
+
+returns : tie.Need-returns
+returns c =
+    let e = c .before .before .before in
+    ap (λ (n : ℕ). (n, e .survey .last .1 .1 .1 .0)) (c .pack-survey .ensures)
+    ∙ ap packedSurveyWith (e .survey .ensures)
+
+pub whaupfield-survey-spec : {M : Type 1} → statement M
+whaupfield-survey-spec = tie.close (tie.spec survey-requires pack-survey-requires same-length returns)

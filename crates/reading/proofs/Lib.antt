@@ -1,0 +1,4 @@
+pub mod Padded
+pub mod NodeLists
+pub mod Strips
+pub mod Answers

@@ -1,0 +1,60 @@
+-- The laws of the elimination, one column at a time.
+use mathlib.Core.Path.{_≡_, refl, sym, ap₂, _∙_}
+use mathlib.Core.List.{List}
+use Prim.Native.Nat.{ℕ, zero, suc, _+_, _-_, _≤_, _<_}
+use native.Mathlib.Numerals.{add-one}
+use native.Mathlib.Omega.{arith}
+use Rattle.square.specs.declared.Line.{Line}
+use Rattle.square.specs.declared.Pivot.{Pivot}
+use Rattle.square.specs.declared.Pivot.the-variants.{At, Missing}
+use Rattle.square.specs.Steps.{stepped, lifted, factorAt, pivotFrom}
+use Rattle.square.specs.Elimination.{Ended, clearing, endFrom, outcomeOf, whole, stuck}
+use Rattle.square.proofs.Steps.{left-next, stepped-ext}
+
+module _ (rows r : ℕ) (a t : List Line) where
+  pub end-at : (n p : ℕ) → pivotFrom a r r rows ≡ At p
+      → endFrom rows (suc n) r a t ≡ clearing rows r (endFrom rows n (suc r)) (lifted r p a) (lifted r p t)
+  unfolding endFrom
+  end-at n p e = rw e
+
+  pub end-stuck : (n : ℕ) → pivotFrom a r r rows ≡ Missing → endFrom rows (suc n) r a t ≡ stuck r a
+  unfolding endFrom
+  end-stuck n e = rw e
+
+  -- ---- the same as a loop counts: column r of `columns`
+  pub end-next : (columns p : ℕ) → r < columns → pivotFrom a r r rows ≡ At p
+      → endFrom rows (columns - r) r a t
+      ≡ clearing rows r (endFrom rows (columns - (r + 1)) (r + 1)) (lifted r p a) (lifted r p t)
+  end-next columns p h e = rw (left-next r columns h) (rw (add-one r) (end-at (columns - suc r) p e))
+
+  -- a turn of the loop: the factors are computed from the lifted square
+  pub end-turn : (columns : ℕ) {p : ℕ} {b u a' t' : List Line} (f : ℕ → ℕ) → r < columns
+      → pivotFrom a r r rows ≡ At p → b ≡ lifted r p a → u ≡ lifted r p t
+      → ((i : ℕ) → i < rows → f i ≡ factorAt b r r i) → a' ≡ stepped f r b rows → t' ≡ stepped f r u rows
+      → endFrom rows (columns - (r + 1)) (r + 1) a' t' ≡ endFrom rows (columns - r) r a t
+  end-turn columns {p} {b} {u} f h e eb eu ef ea et =
+      let next : List Line → List Line → Ended = endFrom rows (columns - (r + 1)) (r + 1) in
+      ap₂ next (ea ∙ stepped-ext f (factorAt b r r) r b rows ef) (et ∙ stepped-ext f (factorAt b r r) r u rows ef)
+      ∙ ap₂ (clearing rows r next) eb eu ∙ sym (end-next columns p h e)
+
+  pub end-none : (columns : ℕ) → r < columns → pivotFrom a r r rows ≡ Missing
+      → endFrom rows (columns - r) r a t ≡ stuck r a
+  end-none columns h e = rw (left-next r columns h) (end-stuck (columns - (r + 1)) e)
+
+  pub end-all : (columns : ℕ) → columns ≤ r → endFrom rows (columns - r) r a t ≡ whole t
+  unfolding endFrom
+  end-all columns h = let z : columns - r ≡ 0 = omega arith in rw z
+
+-- the verdict does not turn on the companion
+pub verdict-alone : (rows n r : ℕ) (a t u : List Line)
+    → outcomeOf (endFrom rows n r a t) .verdict ≡ outcomeOf (endFrom rows n r a u) .verdict
+unfolding endFrom
+verdict-alone rows zero r a t u = refl
+verdict-alone rows (suc n) r a t u = go (pivotFrom a r r rows) refl (verdict-alone rows n (suc r))
+  where
+    go : (x : Pivot) → pivotFrom a r r rows ≡ x
+        → ((a t u : List Line)
+        → outcomeOf (endFrom rows n (suc r) a t) .verdict ≡ outcomeOf (endFrom rows n (suc r) a u) .verdict)
+        → outcomeOf (endFrom rows (suc n) r a t) .verdict ≡ outcomeOf (endFrom rows (suc n) r a u) .verdict
+    go (At p) h next = rw (end-at rows r a t n p h, end-at rows r a u n p h) (next _ _ _)
+    go Missing h next = rw (end-stuck rows r a t n h, end-stuck rows r a u n h)

@@ -1,0 +1,14 @@
+-- `survey::smaller` meets its contract.
+use native.Mathlib.Omega.{arith}
+use borrow.Author.Tests.{le-leb, lt-leb}
+use Rattle.survey.proofs.smaller.Statement.{statement}
+use Rattle.survey.proofs.smaller.Tie as tie
+
+returns : tie.Need-returns
+returns c = (rw (le-leb _ _ (c .if1 .taken)), c .if1 .taken)
+
+returns-2 : tie.Need-returns-2
+returns-2 c = (rw (lt-leb _ _ (c .if1 .left)), omega arith)
+
+pub smaller-spec : {M : Type 1} → statement M
+smaller-spec = tie.close (tie.spec returns returns-2)
