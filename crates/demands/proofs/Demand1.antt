@@ -567,7 +567,7 @@ demand-1-read p nodes x y = record {
   refuses = tried-exactly y _ _ decides;
 }
   where
-    list : Decides (listAccepted (p .n) (p .k) 0 nodes) (Rising (p .n) (p .k) nodes)
+    list : Decides (listAccepted (p .n) 0 (p .k) nodes) (Rising (p .n) (p .k) nodes)
     list = decides-list-accepted (p .n) (p .k) 0 nodes
 
     decides : Decided (readTests p nodes x y) (readSentences p nodes x y)

@@ -8,7 +8,8 @@ use Prim.Native.Nat.{ℕ, _+_, _-_, _≤_, _<_}
 use native.Mathlib.Omega.{arith}
 use lib.ListN.{length}
 use Rattle.ksets.specs.Sets.{sets, setAt, rankOf}
-use Rattle.ksets.proofs.Ranked.{set-rising, set-rank}
+use Rattle.ksets.proofs.Ranked.{set-rising, rank-set, set-rank}
+use Rattle.ksets.proofs.Following.{next-set}
 use Rattle.ksets.proofs.Order.{set-order}
 use Rattle.document.specs.declared.Numbers.{Numbers}
 use Rattle.document.specs.declared.Profile.{Profile}
@@ -90,8 +91,9 @@ module _ (p : Profile) (acc : Accepted p) (start most : ℕ) (x : List ℕ) (wit
       by-result p start most x (Tells p start most x)
       (λ h.
       let below : found < sets n k = omega (arith, looked-min p start most) in
-      failing (decides-fails p acc found below .0 (is-first .holds h)) (none-before found (omega arith) (omega arith))
-      (omega (arith, is-first .low)) (omega (arith, is-first .low, looked-min p start most)) below)
+      failing (is-first .low) below (decides-fails p acc found below .0 (is-first .holds h))
+      (none-before found (omega arith) (omega arith)) (omega (arith, is-first .low))
+      (omega (arith, is-first .low, looked-min p start most)))
       (λ h e. done (none-before (sets n k) (omega arith) (omega arith)) e (omega (arith, looked-min p start most)))
       (λ h e.
       let all : looked ≡ most = omega (arith, looked-min p start most) in
@@ -156,20 +158,23 @@ survey-tells p start most x e = go (refused-or-allowed p start x)
 
 -- The failing sets are those on which readings are refused.
 fails-in-reading : FailsInReading
-fails-in-reading p nodes x y form = (read-refused p nodes x y form .1, read-refused p nodes x y form .0)
+fails-in-reading p pos x y form =
+    let r = read-refused p (setAt 0 (p .n) (p .k) pos) x y form in (r .1, r .0)
 
 -- The positions give each set once, in order.
 all-sets : (n k : ℕ) → AllSets n k
 all-sets n k = record {
   rises = set-rising n k;
   ordered = set-order n k;
-  every = λ nodes r. (rankOf 0 n nodes, set-rank n k nodes r .0, set-rank n k nodes r .1);
+  ranked = rank-set n k;
+  every = set-rank n k;
+  next = next-set n k;
 }
 
 -- 'done' from the first set on: no set fails,
 done-none : (p : Profile) (most looked : ℕ) (x : List ℕ) {outcome : Surveyed × List ℕ} → Tells p 0 most x outcome
     → outcome .0 ≡ Done looked → NoneFails p 0 (sets (p .n) (p .k))
-done-none p most looked x (failing f g a b c) e = absurd (let z : _≡_ {A = ℕ} 0 1 = cc in omega arith)
+done-none p most looked x (failing a b f g c d) e = absurd (let z : _≡_ {A = ℕ} 0 1 = cc in omega arith)
 done-none p most looked x (done none a b) e = none
 done-none p most looked x (opened none a) e = absurd (let z : _≡_ {A = ℕ} 0 1 = cc in omega arith)
 
@@ -278,6 +283,7 @@ surveys-join p start most more x = go (refused-or-allowed p start x)
 pub survey-demands : SurveyDemands
 survey-demands = record {
   tells = survey-tells;
+  test = decides-fails;
   in-reading = fails-in-reading;
   all-sets = all-sets;
   done-reads = done-reads-all;

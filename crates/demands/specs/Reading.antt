@@ -6,7 +6,7 @@
 -- Demand2Read p nodes x y : what demand 2 says of one call, for the columns x and the buffer y
 -- Demand2Reading         : for all numbers, lists and bytes. Shown in proofs/Demand2Reading.antt: demand-2-reading
 --
--- The words it uses, from document/specs/Reading.antt:
+-- The words it uses, from document/specs/Reading.antt and, the last, ksets/specs/Sets.antt:
 -- joinedColumns p nodes x : the columns of the array x at the named nodes, joined in list order
 -- TwoData p nodes         : some two different data give equal columns on the named nodes
 -- Rising n k nodes        : nodes are k strictly rising numbers below n
@@ -37,14 +37,14 @@ pub record OnlyData (p : Profile) (nodes x d : List ℕ) : Type 0 where
   pub only : (c : List ℕ) → Data p c → joinedColumns p nodes (encoded p c) ≡ x → c ≡ d
 
 pub record Demand2Read (p : Numbers) (nodes x y : List ℕ) : Type 0 where
-  -- 'returns the only data whose array has those columns'; 'On success the answer is 0, with .. 0 otherwise'
+  -- 'returns the only data whose array has those columns'; the value that comes with the answer 0 is 0
   pub returns : answerNumber (readOf p nodes x y .0) ≡ 0
       → (answerValue (readOf p nodes x y .0) ≡ 0) × OnlyData (profileOf p) nodes x (readOf p nodes x y .1)
   -- 'A request in due form is refused exactly when some two different data sets give equal columns on those drives.'
   pub refused : InDueForm p nodes x y → (answerNumber (readOf p nodes x y .0) ≡ 10) ↔ TwoData (profileOf p) nodes
   -- It is answered otherwise.
   pub answered : InDueForm p nodes x y → (answerNumber (readOf p nodes x y .0) ≡ 0) ↔ (TwoData (profileOf p) nodes → ⊥)
-  -- 'whatever bytes the lent columns hold': the answer turns on no byte that was lent.
+  -- 'whatever bytes the lent columns hold': the answer turns on no byte of the columns or of the output.
   pub bytes-apart : (u v : List ℕ) → length u ≡ length x → length v ≡ length y
       → readOf p nodes u v .0 ≡ readOf p nodes x y .0
 

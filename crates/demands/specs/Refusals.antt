@@ -240,7 +240,7 @@ pub record Demand1Read (p : Numbers) (nodes x y : List ℕ) : Type 1 where
   pub decided : Decided (readTests p nodes x y) (readSentences p nodes x y)
   pub refuses : RefusesExactly (readSentences p nodes x y) y (readOf p nodes x y)
 
--- Demand 1 for a survey, whose answer is told as that of any call: refused, or done.
+-- Demand 1 for a survey, whose answer is told as that of any call: refused or not.
 pub record Demand1Survey (p : Numbers) (start most : ℕ) (x : List ℕ) : Type 1 where
   pub numbered : Numbered (surveySentences p start x) (1 ∷ 2 ∷ 3 ∷ 4 ∷ 5 ∷ []) (0 ∷ 0 ∷ 0 ∷ 0 ∷ 0 ∷ [])
   pub decided : Decided (surveyTests p start x) (surveySentences p start x)

@@ -1,12 +1,13 @@
 -- The survey, in document 01's words: what each outcome says of the sets, and what it says of readings.
 --
 -- Fails p pos                    : the set at a position fails
--- NoneFails p from to            : no set from a position on, up to another, fails
+-- NoneFails p from to            : no set from the position `from` on and before `to` fails
 -- Tells p start most x outcome   : what the outcome of a survey says, by its three cases
--- joinedOutcome first second     : the outcome of a survey that goes on where the first stopped
+-- joinedOutcome first second     : the outcome of two surveys together, where the second goes on where the first stopped
 -- SurveyTells                    : a survey that is not refused tells the truth
--- FailsInReading                 : a set fails exactly if every reading from it in due form is refused with 10
--- AllSets                        : the positions below the number of sets give the sets of k nodes, each once, in
+-- TestOfFailing                  : the survey's test of a set is true exactly if the set fails
+-- FailsInReading                 : a set fails exactly if readings from it are refused with 10
+-- AllSets n k                    : the positions below the number of sets give the sets of k nodes, each once, in
 --                                  lexicographic order
 -- DoneReadsAll                   : 'done' from start 0 means that every set of k nodes can be read
 -- SurveysJoin                    : surveys of adjoining ranges join into one
@@ -14,6 +15,8 @@
 --
 -- The words it uses:
 -- setAt 0 n k pos       : the set at a position, as a list of its nodes
+-- rankOf 0 n nodes      : the position of a set of the nodes below n
+-- nextOf n nodes        : the next set of the nodes below n
 -- sets n k              : the number of sets of k of n nodes
 -- Rising n k nodes      : nodes are k strictly rising numbers below n
 -- Smaller u v           : u stands before v in lexicographic order
@@ -23,15 +26,15 @@ use mathlib.Core.Logic.{_↔_}
 use mathlib.Core.List.{List}
 use Prim.Native.Nat.{ℕ, _+_, _*_, _≤_, _<_}
 use lib.ListN.{length}
-use Rattle.ksets.specs.Sets.{sets, setAt, Rising, Smaller}
+use Rattle.ksets.specs.Sets.{sets, setAt, rankOf, Rising, Smaller, nextOf}
 use Rattle.document.specs.declared.Numbers.{Numbers}
 use Rattle.document.specs.declared.Profile.{Profile}
 use Rattle.document.specs.declared.Surveyed.{Surveyed}
 use Rattle.document.specs.declared.Surveyed.the-variants.{Failing, Done, Open, Refused}
-use Rattle.document.specs.Refusals.{answerNumber}
+use Rattle.document.specs.Refusals.{answerNumber, Decides}
 use Rattle.document.specs.Profile.{Accepted, profileOf}
 use Rattle.document.specs.Reading.{TwoData, readOf}
-use Rattle.document.specs.Survey.{surveyAnswer, surveyOf}
+use Rattle.document.specs.Survey.{failsAt, surveyAnswer, surveyOf}
 use Rattle.demands.specs.Reading.{InDueForm}
 
 module _ (p : Profile) where
@@ -48,8 +51,8 @@ module _ (p : Profile) where
   pub data Tells (start most : ℕ) (x : List ℕ) : Surveyed × List ℕ → Type 0 where
     -- 'failing, with position (counted from the first set of all, whatever the start) and the set written out'; 'up to and
     -- with the first failing one, if it is among the first B from the start'
-    failing : {pos looked : ℕ} → Fails pos → NoneFails start pos → start + looked ≡ pos + 1 → looked ≤ most
-        → pos < sets n k → Tells start most x (Failing pos looked, setAt 0 n k pos)
+    failing : {pos looked : ℕ} → start ≤ pos → pos < sets n k → Fails pos → NoneFails start pos
+        → start + looked ≡ pos + 1 → looked ≤ most → Tells start most x (Failing pos looked, setAt 0 n k pos)
     -- 'it is done if none is left after that': all that was left was looked at
     done : {looked : ℕ} → NoneFails start (sets n k) → start + looked ≡ sets n k → looked ≤ most
         → Tells start most x (Done looked, x)
@@ -62,17 +65,25 @@ SurveyTells =
     (p : Numbers) (start most : ℕ) (x : List ℕ) → answerNumber (surveyAnswer (surveyOf p start most x .0)) ≡ 0
     → Tells (profileOf p) start most x (surveyOf p start most x)
 
--- The failing sets are exactly those on which every reading in due form is refused with 10.
+-- The test that decides a set is equivalent to its sentence.
+abbrev pub TestOfFailing : Type 0
+TestOfFailing =
+    (p : Profile) → Accepted p → (pos : ℕ) → pos < sets (p .n) (p .k) → Decides (failsAt p pos) (Fails p pos)
+
+-- The failing sets are exactly those on which readings are refused with 10: each reading in due form, if one is.
 abbrev pub FailsInReading : Type 0
 FailsInReading =
-    (p : Numbers) (nodes x y : List ℕ) → InDueForm p nodes x y
-    → TwoData (profileOf p) nodes ↔ (answerNumber (readOf p nodes x y .0) ≡ 10)
+    (p : Numbers) (pos : ℕ) (x y : List ℕ) → InDueForm p (setAt 0 (p .n) (p .k) pos) x y
+    → Fails (profileOf p) pos ↔ (answerNumber (readOf p (setAt 0 (p .n) (p .k) pos) x y .0) ≡ 10)
 
 -- 'the sets of k nodes in lexicographic order, starting at a given position (0 is the first)'
 pub record AllSets (n k : ℕ) : Type 0 where
   pub rises : (pos : ℕ) → pos < sets n k → Rising n k (setAt 0 n k pos)
   pub ordered : (pos qos : ℕ) → pos < qos → qos < sets n k → Smaller (setAt 0 n k pos) (setAt 0 n k qos)
-  pub every : (nodes : List ℕ) → Rising n k nodes → (pos : ℕ) × (pos < sets n k) × (setAt 0 n k pos ≡ nodes)
+  pub ranked : (pos : ℕ) → pos < sets n k → rankOf 0 n (setAt 0 n k pos) ≡ pos
+  pub every : (nodes : List ℕ) → Rising n k nodes
+      → (rankOf 0 n nodes < sets n k) × (setAt 0 n k (rankOf 0 n nodes) ≡ nodes)
+  pub next : (pos : ℕ) → pos + 1 < sets n k → nextOf n (setAt 0 n k pos) ≡ setAt 0 n k (pos + 1)
 
 -- 'done' from the first set on: each request in due form is answered.
 abbrev pub DoneReadsAll : Type 0
@@ -80,7 +91,7 @@ DoneReadsAll =
     (p : Numbers) (most looked : ℕ) (set : List ℕ) → surveyOf p 0 most set .0 ≡ Done looked
     → (nodes x y : List ℕ) → InDueForm p nodes x y → answerNumber (readOf p nodes x y .0) ≡ 0
 
--- A survey that was open goes on: the numbers of sets looked at add up.
+-- Where the first survey was open the second goes on, and the numbers of sets looked at add up.
 abbrev pub joinedOutcome : Surveyed × List ℕ → Surveyed × List ℕ → Surveyed × List ℕ
 joinedOutcome (Failing pos looked, x) second = (Failing pos looked, x)
 joinedOutcome (Done looked, x) second = (Done looked, x)
@@ -90,7 +101,8 @@ joinedOutcome (Open looked, x) (Done more, y) = (Done (looked + more), y)
 joinedOutcome (Open looked, x) (Open more, y) = (Open (looked + more), y)
 joinedOutcome (Open looked, x) (Refused r, y) = (Refused r, y)
 
--- A survey of two ranges, one after the other, is one survey.
+-- Surveys of two ranges, one after the other, are one survey. The second is lent x too: it matters only where the first was
+-- open, and then the first left x as it was.
 abbrev pub SurveysJoin : Type 0
 SurveysJoin =
     (p : Numbers) (start most more : ℕ) (x : List ℕ)
@@ -98,6 +110,7 @@ SurveysJoin =
 
 pub record SurveyDemands : Type 0 where
   pub tells : SurveyTells
+  pub test : TestOfFailing
   pub in-reading : FailsInReading
   pub all-sets : (n k : ℕ) → AllSets n k
   pub done-reads : DoneReadsAll

@@ -22,7 +22,7 @@ rising-more = elim [ ]
 rising-less : {n b k : ℕ} → RisingFrom n b (suc k) [] → ⊥
 rising-less = elim [ ]
 
-pub decides-list-accepted : (n k b : ℕ) (nodes : List ℕ) → Decides (listAccepted n k b nodes) (RisingFrom n b k nodes)
+pub decides-list-accepted : (n k b : ℕ) (nodes : List ℕ) → Decides (listAccepted n b k nodes) (RisingFrom n b k nodes)
 unfolding listAccepted
 decides-list-accepted n zero b [] = ((λ e. none), λ r. refl)
 decides-list-accepted n zero b (x ∷ xs) = ((λ e. absurd (false≢true e)), λ r. absurd (rising-more r))

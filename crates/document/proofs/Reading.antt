@@ -36,7 +36,7 @@ use Rattle.document.specs.Reading.{
   TwoData,
   lineOf,
   squareOf,
-  readingOf,
+  eliminationOf,
   ambiguous,
   inverseOf,
   dataFrom,
@@ -220,7 +220,7 @@ module _ (p : Profile) where
     -- The elimination gets stuck: a vector other than zero that the square takes to zero is, at each byte offset, data
     -- with the columns of the data that are all zero.
     pub ambiguous-two : ambiguous p nodes ≡ true → TwoData p nodes
-    unfolding ambiguous readingOf
+    unfolding ambiguous eliminationOf
     ambiguous-two e = record {
       first = at-numbers v;
       second = at-numbers (λ e. 𝟘);
@@ -249,10 +249,10 @@ module _ (p : Profile) where
     module _ (clear : ambiguous p nodes ≡ false) where
       -- it made the inverse
       inverse : Inverse bytes m m M (matrix (inverseOf p nodes))
-      unfolding ambiguous readingOf inverseOf
+      unfolding ambiguous eliminationOf inverseOf
       inverse = go (not-singular (square-shaped nodes) (unit-square m (omega arith)) clear)
         where
-          go : (u : List Line) × (readingOf p nodes ≡ whole u) × Inverse bytes m m M (matrix u)
+          go : (u : List Line) × (eliminationOf p nodes ≡ whole u) × Inverse bytes m m M (matrix u)
               → Inverse bytes m m M (matrix (inverseOf p nodes))
           go (u, e, I) = rw e I
 

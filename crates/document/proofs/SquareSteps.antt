@@ -3,7 +3,7 @@
 -- matrix s        : the lines of s as a matrix over the bytes
 -- Small s         : each entry of s is a byte
 -- Shaped m w s    : s has at least m lines, those with at least w entries, and all entries are bytes
--- Companion m t   : t has at least m lines of at least m entries, bytes all, and begins with the unit matrix
+-- UnitShaped m t  : t has at least m lines of at least m entries, bytes all, and begins with the unit matrix
 -- Taken c p m s b : b comes from s by adding c i times line p to each line i below m
 use mathlib.Core.Path.{_≡_, refl, sym, ap, ap₂, _∙_}
 use mathlib.Core.Logic.{_≢_}
@@ -24,7 +24,7 @@ use Rattle.algebra.proofs.Square.{unit-at, unit-off}
 use Rattle.algebra.proofs.Elimination.{coefficient-at, coefficient-off}
 use Rattle.strips.specs.Strips.{addedScaled}
 use Rattle.square.specs.declared.Line.{Line}
-use Rattle.square.specs.Steps.{noLine, lineAt, entry, stepped, lifted, factorAt, unitLine, unitSquare}
+use Rattle.square.specs.Steps.{noLine, lineAt, entry, stepped, lifted, multiplierAt, unitLine, unitSquare}
 use Rattle.square.proofs.Steps.{added-length, added-at, added-none, stepped-length, stepped-at, stepped-rest}
 use Rattle.document.specs.Bytes.{bytes, Byte, byte}
 use Rattle.document.proofs.Bytes.{byte-zero, byte-one, byte-add, byte-mul, byte-inv, byte-ne, byte-one-one}
@@ -40,7 +40,7 @@ pub record Shaped (m w : ℕ) (s : List Line) : Type 0 where
   pub wide : (i : ℕ) → i < m → w ≤ length (lineAt s i)
   pub small : Small s
 
-pub record Companion (m : ℕ) (t : List Line) : Type 0 where
+pub record UnitShaped (m : ℕ) (t : List Line) : Type 0 where
   pub shape : Shaped m m t
   pub begins : (i j : ℕ) → i < m → j < m → matrix t i j ≡ unit bytes i j
 
@@ -118,8 +118,8 @@ module _ (q : ℕ) where
       go (yes h) = rw (unit-square-at i h) (unit-line-small i j)
       go (no h) = rw (unit-square-none i (omega arith)) (omega arith)
 
--- The unit square of q ≥ m lines is a companion of a square of m lines.
-pub unit-square : {m : ℕ} (q : ℕ) → m ≤ q → Companion m (unitSquare q)
+-- The unit square of q ≥ m lines can stand beside a square of m lines.
+pub unit-square : {m : ℕ} (q : ℕ) → m ≤ q → UnitShaped m (unitSquare q)
 unfolding matrix
 unit-square q l = record {
   shape = record {
@@ -208,8 +208,8 @@ lifted-taken r p m s n h l =
         ∙ sym (added-none 0 (lineAt s p) (lineAt s i) refl))
 
 -- The bytes of the factors that clear a column are the algebra's coefficients.
-pub clear-factor : (b : List Line) (r i : ℕ) → Small b → byte (factorAt b r r i) ≡ coefficient bytes r (matrix b) i
-unfolding factorAt matrix
+pub clear-factor : (b : List Line) (r i : ℕ) → Small b → byte (multiplierAt b r r i) ≡ coefficient bytes r (matrix b) i
+unfolding multiplierAt matrix
 clear-factor b r i small = go (ℕ-discrete i r)
   where
     go : Dec (i ≡ r)

@@ -5,7 +5,7 @@
 -- Null m w M r l    : the vector of l is 1 at r < w, and M takes it to zero
 -- Made m w M u      : u is the inverse of M
 -- Good m w M e      : what holds of M where the elimination of its lines ends with e
--- State m w M r a t : the elimination of M has come to the square a with the companion t, and r columns are done
+-- State m w M r a t : the elimination of M has come to the square a with the right half t, and r columns are done
 use mathlib.Core.Path.{_≡_, refl, sym, ap, _∙_}
 use mathlib.Core.Logic.{_≢_, _↔_}
 use mathlib.Core.Bool.{true, false, cond}
@@ -37,7 +37,7 @@ use Rattle.algebra.proofs.Elimination.{
 use Rattle.square.specs.declared.Line.{Line}
 use Rattle.square.specs.declared.Pivot.{Pivot}
 use Rattle.square.specs.declared.Pivot.the-variants.{At, Missing}
-use Rattle.square.specs.Steps.{entry, stepped, lifted, factorAt, pivotFrom, unitSquare}
+use Rattle.square.specs.Steps.{entry, stepped, lifted, multiplierAt, pivotFrom, unitSquare}
 use Rattle.square.specs.Elimination.{Ended, whole, stuck, endFrom, eliminated, singular, kernelFrom}
 use Rattle.square.proofs.Pivots.{Pivoted, pivoted, unpivoted}
 use Rattle.square.proofs.Ends.{end-at, end-stuck}
@@ -55,7 +55,7 @@ use Rattle.document.proofs.SquareSteps.{
   lifted-taken,
   clear-factor,
 }
-pub use Rattle.document.proofs.SquareSteps.{matrix, Small, Shaped, Companion, entry-same, unit-square}
+pub use Rattle.document.proofs.SquareSteps.{matrix, Small, Shaped, UnitShaped, entry-same, unit-square}
 
 unfoldable pub vector : List ℕ → ℕ → Byte
 vector l j = byte (getD l j 0)
@@ -121,7 +121,7 @@ module _ (m w : ℕ) (M : Matrix bytes) where
     lift-taken : Taken (λ i. cond (eqb i r) 1 0) p m a (lifted r p a)
     lift-taken = lifted-taken r p m a (omega arith) (omega arith) (S .shape .long)
 
-    -- The step of the companion.
+    -- The step of the right half.
     lift-beside : Taken (λ i. cond (eqb i r) 1 0) p m t (lifted r p t)
     lift-beside = lifted-taken r p m t (omega arith) (omega arith) (S .beside .long)
 
@@ -148,7 +148,7 @@ module _ (m w : ℕ) (M : Matrix bytes) where
 
   -- A column is cleared by the pivot in line r.
   clear-state : (r : ℕ) (b u : List Line) → r < m → r < w → State r b u → matrix b r r ≢ bytes .𝟘
-      → State (suc r) (stepped (factorAt b r r) r b m) (stepped (factorAt b r r) r u m)
+      → State (suc r) (stepped (multiplierAt b r r) r b m) (stepped (multiplierAt b r r) r u m)
   clear-state r b u l k S n = record {
     shape = taken-shaped taken (S .shape);
     beside = taken-shaped taken-beside (S .beside);
@@ -161,29 +161,29 @@ module _ (m w : ℕ) (M : Matrix bytes) where
       c : ℕ → Byte
       c = coefficient bytes r (matrix b)
 
-      same : (i : ℕ) → i < m → byte (factorAt b r r i) ≡ c i
+      same : (i : ℕ) → i < m → byte (multiplierAt b r r i) ≡ c i
       same i q = clear-factor b r i (S .shape .small)
 
-      taken : Taken (factorAt b r r) r m b (stepped (factorAt b r r) r b m)
-      taken = stepped-taken (factorAt b r r) r m b (S .shape .long)
+      taken : Taken (multiplierAt b r r) r m b (stepped (multiplierAt b r r) r b m)
+      taken = stepped-taken (multiplierAt b r r) r m b (S .shape .long)
 
-      taken-beside : Taken (factorAt b r r) r m u (stepped (factorAt b r r) r u m)
-      taken-beside = stepped-taken (factorAt b r r) r m u (S .beside .long)
+      taken-beside : Taken (multiplierAt b r r) r m u (stepped (multiplierAt b r r) r u m)
+      taken-beside = stepped-taken (multiplierAt b r r) r m u (S .beside .long)
 
-      step : Step bytes m w r c (matrix b) (matrix (stepped (factorAt b r r) r b m))
+      step : Step bytes m w r c (matrix b) (matrix (stepped (multiplierAt b r r) r b m))
       step = taken-step taken (S .shape) c same
 
   -- One column more, by the pivot that was found.
   next-state : (r p : ℕ) (a t : List Line) → Pivoted a r r m p → r < w → State r a t
       → State (suc r)
-      (stepped (factorAt (lifted r p a) r r) r (lifted r p a) m)
-      (stepped (factorAt (lifted r p a) r r) r (lifted r p t) m)
+      (stepped (multiplierAt (lifted r p a) r r) r (lifted r p a) m)
+      (stepped (multiplierAt (lifted r p a) r r) r (lifted r p t) m)
   next-state r p a t P k S = go (ℕ-discrete p r)
     where
       go : Dec (p ≡ r)
           → State (suc r)
-          (stepped (factorAt (lifted r p a) r r) r (lifted r p a) m)
-          (stepped (factorAt (lifted r p a) r r) r (lifted r p t) m)
+          (stepped (multiplierAt (lifted r p a) r r) r (lifted r p a) m)
+          (stepped (multiplierAt (lifted r p a) r r) r (lifted r p t) m)
       go (yes e) =
           rw (lifted-same r p a e, lifted-same r p t e)
           (clear-state r a t (omega (arith, P .high)) k S (matrix-nonzero a (S .shape .small) r r
@@ -231,8 +231,8 @@ module _ (m w : ℕ) (M : Matrix bytes) where
       go Missing h next = rw (end-stuck m r a t n h) (stuck-null r a t (omega arith) h S)
 
 -- ---- the outcome
-module _ {m w : ℕ} {s t : List Line} (S : Shaped m w s) (T : Companion m t) where
-  -- How the elimination of s with the companion t ends.
+module _ {m w : ℕ} {s t : List Line} (S : Shaped m w s) (T : UnitShaped m t) where
+  -- How the elimination of s with the right half t ends.
   ended : Good m w (matrix s) (eliminated m w s t)
   ended =
       good m w (matrix s) w 0 (omega arith) (omega arith) s t
@@ -243,14 +243,14 @@ module _ {m w : ℕ} {s t : List Line} (S : Shaped m w s) (T : Companion m t) wh
         reduced = record { one = λ j h. absurd (omega arith); off = λ i j k h d. absurd (omega arith) };
       }
 
-  -- Each column has its pivot: the companion becomes the inverse.
+  -- Each column has its pivot: the right half becomes the inverse.
   pub regular : {u : List Line} → eliminated m w s t ≡ whole u → Inverse bytes m w (matrix s) (matrix u)
   unfolding Good
   regular {u} e =
       let made : Made m w (matrix s) u = rw e at ended in
       made .inverse
 
-  -- The companion keeps its shape.
+  -- The right half keeps its shape.
   pub regular-shaped : {u : List Line} → eliminated m w s t ≡ whole u → Shaped m m u
   unfolding Good
   regular-shaped {u} e =
@@ -286,7 +286,7 @@ module _ {m w : ℕ} {s t : List Line} (S : Shaped m w s) (T : Companion m t) wh
 
 -- ---- two squares with one matrix
 -- The verdict turns on the matrix alone.
-pub singular-same : {m w : ℕ} {s t s′ t′ : List Line} → Shaped m w s → Companion m t → Shaped m w s′ → Companion m t′
+pub singular-same : {m w : ℕ} {s t s′ t′ : List Line} → Shaped m w s → UnitShaped m t → Shaped m w s′ → UnitShaped m t′
     → ((i j : ℕ) → i < m → j < w → matrix s i j ≡ matrix s′ i j)
     → singular (eliminated m w s t) ≡ singular (eliminated m w s′ t′)
 unfolding Good
@@ -304,7 +304,7 @@ singular-same {m} {w} {s} {t} {s′} {t′} S T S′ T′ same =
 
 -- So does the inverse.
 pub inverse-same : {m : ℕ} {s t s′ t′ u u′ : List Line}
-    → Shaped m m s → Companion m t → Shaped m m s′ → Companion m t′
+    → Shaped m m s → UnitShaped m t → Shaped m m s′ → UnitShaped m t′
     → ((i j : ℕ) → i < m → j < m → matrix s i j ≡ matrix s′ i j)
     → eliminated m m s t ≡ whole u → eliminated m m s′ t′ ≡ whole u′
     → (i j : ℕ) → i < m → j < m → matrix u i j ≡ matrix u′ i j

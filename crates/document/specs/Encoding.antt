@@ -6,8 +6,8 @@
 -- byteAt p x b q    : byte b of that strip, in data or in an array x; 0 past the end of x
 -- baseAt p d b q    : the base symbol of the data d at byte offset b of the place q
 -- constantOf p i l  : the coupling constant of the lower strip at row i, local column l
--- factorAt p i l    : by what the partner is multiplied in the strip at row i, local column l
 -- coupledAt p a q   : what is stored at q where the base symbols are a
+-- factorAt p i l    : by what the partner is multiplied in the strip at row i, local column l
 -- laidOut p m f     : m nodes in memory's order, with f b q at byte b of the place q
 -- columnOf p f j    : the column of node j among them
 -- Data p d          : d are data
@@ -68,10 +68,6 @@ module _ (p : Profile) where
   unfoldable pub constantOf : ℕ → ℕ → Byte
   constantOf i l = byte t
 
-  -- The algebra's table of factors: 0 where i = l, 1 where i < l, the constant where i > l.
-  abbrev pub factorAt : ℕ → ℕ → Byte
-  factorAt = factor bytes constantOf
-
   -- 'The stored strip x(i,j) is: a(i,j) where i = l; a(i,j) + a(partner) where i < l; a(i,j) + t·a(partner) where i > l.'
   unfoldable pub coupledAt : (Place → Byte) → Place → Byte
   coupledAt a q =
@@ -79,6 +75,10 @@ module _ (p : Profile) where
       let l : ℕ = localColumn A (q .node) in
       pick (ℕ-discrete i l) (a q)
       (pick (decLt i l) (a q ⊕ a (partnerOf A q)) (a q ⊕ constantOf i l ⊗ a (partnerOf A q)))
+
+  -- The same three cases as a table, for the algebra: 0 where i = l, 1 where i < l, the constant where i > l.
+  abbrev pub factorAt : ℕ → ℕ → Byte
+  factorAt = factor bytes constantOf
 
   -- Byte e = (jA+i)S + b: so b is e mod S, and strip e div S is that of node (e div S) div A, row (e div S) mod A.
   unfoldable pub laidOut : ℕ → (ℕ → Place → Byte) → List ℕ

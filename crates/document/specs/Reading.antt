@@ -1,23 +1,25 @@
 -- 'Reading back': the data from the columns of k named nodes.
 --
--- listAccepted n k b nodes  : the test whether nodes are k strictly rising numbers from b on, below n
+-- listAccepted n b k nodes  : the test whether nodes are k strictly rising numbers from b on, below n
 -- coefficientAt p q r       : by what the data symbol at the place r is multiplied in the symbol stored at q
 -- dataPlace p e             : the place of data symbol e, counted row by row
 -- dataIndex p q             : the number of the data symbol at the place q, counted so
+-- namedPlace p nodes q      : the place of the m-th named node and the row of q, where m is the node of q
 -- joinedPlace p nodes z     : the place of strip z of the named nodes' columns joined in list order
 -- joinedColumns p nodes x   : those columns of the array x
 -- TwoData p nodes           : some two different data give equal columns on the named nodes
 -- lineOf p q                : the coefficients of all data symbols in what is stored at the place q
 -- squareOf p nodes          : the coefficient square: a line for each strip of the joined columns
--- readingOf p nodes         : its elimination, with the unit square as companion
+-- eliminationOf p nodes     : its elimination, beside the unit square
 -- ambiguous p nodes         : the test of refusal 10
--- inverseOf p nodes         : the lines of the inverse; where the test of refusal 10 holds there is none
+-- inverseIn e               : the lines of the inverse, from how an elimination ended; none where a column has no pivot
+-- inverseOf p nodes         : the lines of the inverse of the coefficient square
 -- dataFrom p nodes x        : the data read back from the joined columns x
 -- readTests p nodes x y     : the refusals of reading back, in their order
 -- readOf p nodes x y        : reading back the columns x of the named nodes into y: the answer, and what y holds then
 --
--- From `square`: eliminated rows columns s t is how the elimination of s with the companion t ends, with `whole` and the
--- companion if each column has a pivot. That the test is true exactly where some two different data give equal columns,
+-- From `square`: eliminated rows columns s t is how the elimination of s beside t ends, with `whole` and what became of t
+-- if each column has a pivot. That the test is true exactly where some two different data give equal columns,
 -- and that the data read back are otherwise the only ones with these columns, is demand 2.
 use mathlib.Core.Path.{_≡_}
 use mathlib.Core.Logic.{_≢_}
@@ -52,10 +54,10 @@ open Field bytes using (𝟘, mul as _⊗_)
 
 -- 'node list not k strictly rising numbers below n'
 unfoldable pub listAccepted : ℕ → ℕ → ℕ → List ℕ → Bool
-listAccepted n zero b [] = true
-listAccepted n zero b (x ∷ xs) = false
-listAccepted n (suc k) b [] = false
-listAccepted n (suc k) b (x ∷ xs) = leb b x && (ltb x n && listAccepted n k (suc x) xs)
+listAccepted n b zero [] = true
+listAccepted n b zero (x ∷ xs) = false
+listAccepted n b (suc k) [] = false
+listAccepted n b (suc k) (x ∷ xs) = leb b x && (ltb x n && listAccepted n (suc x) k xs)
 
 module _ (p : Profile) where
   open Profile p using (k, a as A, s as S)
@@ -76,11 +78,14 @@ module _ (p : Profile) where
 
   -- 'those nodes' columns joined in list order'; 'a node's column is its A strips, row 0 first': the m-th named node
   -- stands where node m would stand in memory.
+  abbrev pub namedPlace : List ℕ → Place → Place
+  namedPlace nodes q = place (getD nodes (q .node .0) 0) (q .row .0)
+
   abbrev pub joinedPlace : List ℕ → ℕ → Place
-  joinedPlace nodes z = place (getD nodes (z / A) 0) (z % A)
+  joinedPlace nodes z = namedPlace nodes (place (z / A) (z % A))
 
   unfoldable pub joinedColumns : List ℕ → List ℕ → List ℕ
-  joinedColumns nodes x = laidOut p k (λ b q. byteAt p x b (place (getD nodes (q .node .0) 0) (q .row .0)))
+  joinedColumns nodes x = laidOut p k (λ b q. byteAt p x b (namedPlace nodes q))
 
   -- 'some two different data give equal columns on these nodes'
   pub record TwoData (nodes : List ℕ) : Type 0 where
@@ -98,19 +103,19 @@ module _ (p : Profile) where
   unfoldable pub squareOf : List ℕ → List Line
   squareOf nodes = listed (k * A) (λ z. lineOf (joinedPlace nodes z))
 
-  unfoldable pub readingOf : List ℕ → Ended
-  readingOf nodes = eliminated (k * A) (k * A) (squareOf nodes) (unitSquare (k * A))
+  unfoldable pub eliminationOf : List ℕ → Ended
+  eliminationOf nodes = eliminated (k * A) (k * A) (squareOf nodes) (unitSquare (k * A))
 
-  -- The test of it: 'whatever bytes the lent columns hold', which are not looked at.
+  -- The test of refusal 10, 'whatever bytes the lent columns hold': it does not look at them.
   unfoldable pub ambiguous : List ℕ → Bool
-  ambiguous nodes = singular (readingOf nodes)
+  ambiguous nodes = singular (eliminationOf nodes)
 
   abbrev pub inverseIn : Ended → List Line
   inverseIn (whole t) = t
   inverseIn (stuck r a) = []
 
   unfoldable pub inverseOf : List ℕ → List Line
-  inverseOf nodes = inverseIn (readingOf nodes)
+  inverseOf nodes = inverseIn (eliminationOf nodes)
 
   -- Each data symbol is the sum of the joined columns' symbols at its byte offset, times its line of the inverse.
   unfoldable pub dataFrom : List ℕ → List ℕ → List ℕ
@@ -122,7 +127,7 @@ module _ (p : Profile) where
 unfoldable pub readTests : Numbers → List ℕ → List ℕ → List ℕ → List Test
 readTests p nodes x y =
     profileTests p
-    ++ (record { refusal = OutOfRange; holds = not (listAccepted (p .n) (p .k) 0 nodes) }
+    ++ (record { refusal = OutOfRange; holds = not (listAccepted (p .n) 0 (p .k) nodes) }
     ∷ record {
       refusal = BufferLength;
       holds = not (eqb (length x) (p .k * p .a * p .s) && eqb (length y) (p .k * p .a * p .s));

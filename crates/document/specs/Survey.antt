@@ -8,8 +8,9 @@
 -- resultOf p start most x    : what a survey that is not refused answers, and what the buffer x holds then
 -- surveyTests p start x      : the refusals of a survey, in their order
 -- surveyOf p start most x    : the survey into x: the answer, and what x holds then
--- surveyAnswer s             : the survey's answer as that of any call: refused, or done with the number of sets looked at
--- outcomeNumber s            : which of the three outcomes it is: 0 done, 1 failing, 2 open; 0 where it is refused
+-- surveyAnswer s             : the survey's answer as that of any call: refused, or answered, with the number of sets looked
+--                              at
+-- outcomeNumber s            : which of the three outcomes it is: 1 failing, 2 done, 3 open; 0 where it is refused
 -- positionIn s               : the failing position; 0 where there is none
 -- lookedIn s                 : the number of sets looked at; 0 where it is refused
 --
@@ -38,7 +39,7 @@ firstIn P at (suc c) = cond (P at) at (firstIn P (suc at) c)
 module _ (p : Profile) where
   open Profile p using (n, k)
 
-  -- 'A set fails if two different data give the same columns on it.'
+  -- The test of 'A set fails if two different data give the same columns on it.'
   unfoldable pub failsAt : ℕ → Bool
   failsAt pos = ambiguous p (setAt 0 n k pos)
 
@@ -72,17 +73,18 @@ unfoldable pub surveyOf : Numbers → ℕ → ℕ → List ℕ → Surveyed × L
 surveyOf p start most x =
     tried (surveyTests p start x) (λ r. (Refused r, x)) (resultOf (profileOf p) start most x)
 
--- 'On success the answer is 0, with .. the outcome and count described above for a survey'
+-- 'On success the answer is 0': what a survey has in common with every other call.
 unfoldable pub surveyAnswer : Surveyed → answer.Answer
 surveyAnswer (Failing position looked) = answers.Done looked
 surveyAnswer (Done looked) = answers.Done looked
 surveyAnswer (Open looked) = answers.Done looked
 surveyAnswer (Refused r) = answers.Refused r
 
+-- 'with .. the outcome and count described above for a survey'. No outcome is 0, so that none is taken for a refusal's.
 unfoldable pub outcomeNumber : Surveyed → ℕ
 outcomeNumber (Failing position looked) = 1
-outcomeNumber (Done looked) = 0
-outcomeNumber (Open looked) = 2
+outcomeNumber (Done looked) = 2
+outcomeNumber (Open looked) = 3
 outcomeNumber (Refused r) = 0
 
 unfoldable pub positionIn : Surveyed → ℕ

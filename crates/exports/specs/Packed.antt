@@ -6,11 +6,14 @@
 --                    number of sets looked at in 22 bits each
 -- packedSurvey s   : a survey's answer: the number in the low byte, its value above it; with a refusal the value is 0
 -- packedSurveyWith pair : a survey's outcome with its answer packed
-use Prim.Native.Nat.{ℕ, _+_, _*_, _^_}
+-- SurveyFits       : no survey's position or number of sets needs more than 22 bits. Shown in proofs/Values.antt: survey-fits
+use mathlib.Core.List.{List}
+use Prim.Native.Nat.{ℕ, _+_, _*_, _^_, _<_}
+use Rattle.document.specs.declared.Numbers.{Numbers}
 use Rattle.document.specs.declared.Answer.{Answer}
 use Rattle.document.specs.declared.Surveyed.{Surveyed}
 use Rattle.document.specs.Refusals.{answerNumber, answerValue}
-use Rattle.document.specs.Survey.{surveyAnswer, outcomeNumber, positionIn, lookedIn}
+use Rattle.document.specs.Survey.{surveyOf, surveyAnswer, outcomeNumber, positionIn, lookedIn}
 
 unfoldable pub packed : Answer → ℕ
 packed answer = answerNumber answer + 256 * answerValue answer
@@ -29,3 +32,9 @@ packedSurvey s =
 
 abbrev pub packedSurveyWith : {X : Type 0} → Surveyed × X → ℕ × X
 packedSurveyWith (answer, x) = (packedSurvey answer, x)
+
+-- So nothing is lost by packing.
+abbrev pub SurveyFits : Type 0
+SurveyFits =
+    (p : Numbers) (start most : ℕ) (x : List ℕ)
+    → (positionIn (surveyOf p start most x .0) < 2 ^ 22) × (lookedIn (surveyOf p start most x .0) < 2 ^ 22)

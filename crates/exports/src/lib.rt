@@ -134,8 +134,8 @@ fn pack_survey(answer: Surveyed) -> u64
 {
     match answer {
         Surveyed::Failing(position, looked) => pack_outcome(1, position, looked),
-        Surveyed::Done(looked) => pack_outcome(0, 0, looked),
-        Surveyed::Open(looked) => pack_outcome(2, 0, looked),
+        Surveyed::Done(looked) => pack_outcome(2, 0, looked),
+        Surveyed::Open(looked) => pack_outcome(3, 0, looked),
         Surveyed::Refused(r) => r.number() as u64,
     }
 }

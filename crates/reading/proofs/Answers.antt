@@ -28,16 +28,16 @@ module _ (p : Numbers) (nodes x y : List ℕ) where
     same : q ≡ profileOf p
     same = accepted p q e .0
 
-    pub list-refused : listAccepted (q .n) (q .k) 0 nodes ≡ false → (Refused OutOfRange, y) ≡ readOf p nodes x y
+    pub list-refused : listAccepted (q .n) 0 (q .k) nodes ≡ false → (Refused OutOfRange, y) ≡ readOf p nodes x y
     unfolding readOf readTests tried
-    list-refused f = let g : listAccepted (p .n) (p .k) 0 nodes ≡ false = rw same at f in
+    list-refused f = let g : listAccepted (p .n) 0 (p .k) nodes ≡ false = rw same at f in
         sym (tried-accepted p _ _ _ q e ∙ simp g)
 
-    module _ (list : listAccepted (q .n) (q .k) 0 nodes ≡ true) where
+    module _ (list : listAccepted (q .n) 0 (q .k) nodes ≡ true) where
       wrong-length : eqb (length x) (p .k * p .a * p .s) && eqb (length y) (p .k * p .a * p .s) ≡ false
           → (Refused BufferLength, y) ≡ readOf p nodes x y
       unfolding readOf readTests tried
-      wrong-length f = let g : listAccepted (p .n) (p .k) 0 nodes ≡ true = rw same at list in
+      wrong-length f = let g : listAccepted (p .n) 0 (p .k) nodes ≡ true = rw same at list in
           sym (tried-accepted p _ _ _ q e ∙ simp (g, f))
 
       pub columns-refused : (length x ≡ q .k * q .a * q .s → ⊥) → (Refused BufferLength, y) ≡ readOf p nodes x y
@@ -52,7 +52,7 @@ module _ (p : Numbers) (nodes x y : List ℕ) where
         pub in-due-form : length y ≡ q .k * q .a * q .s → readingAnswer q nodes x y ≡ readOf p nodes x y
         unfolding readOf readTests readingAnswer tried
         in-due-form room =
-            let g : listAccepted (p .n) (p .k) 0 nodes ≡ true = rw same at list in
+            let g : listAccepted (p .n) 0 (p .k) nodes ≡ true = rw same at list in
             ap (λ (r : Profile). cond (ambiguous r nodes) (Refused Ambiguous, y) (Done 0, dataFrom r nodes x)) same
             ∙ last (ambiguous (profileOf p) nodes)
             ∙ sym (tried-accepted p _ _ _ q e ∙ simp (g, eq-eqb _ _ (rw same at size), eq-eqb _ _ (rw same at room)))

@@ -16,7 +16,7 @@ use Rattle.square.specs.declared.Line.{Line}
 use Rattle.square.specs.declared.Verdict.{Verdict}
 use Rattle.square.specs.declared.Verdict.the-variants.{Regular, Singular}
 use Rattle.square.specs.Steps.{noLine, lineAt, entry, filled, unitSquare}
-use Rattle.square.specs.Elimination.{Ended, whole, stuck, outcomeOf, singular}
+use Rattle.square.specs.Elimination.{Ended, whole, stuck, verdictAndLines, singular}
 use Rattle.square.proofs.Steps.{filled-at, filled-rest, filled-length}
 use Rattle.document.specs.declared.Profile.{Profile}
 use Rattle.document.specs.Profile.{Accepted}
@@ -26,7 +26,7 @@ use Rattle.document.specs.Reading.{
   dataPlace,
   joinedPlace,
   squareOf,
-  readingOf,
+  eliminationOf,
   ambiguous,
   inverseIn,
   inverseOf,
@@ -38,7 +38,7 @@ use Rattle.document.proofs.SquareSteps.{matrix, Shaped, unit-square}
 use Rattle.document.proofs.Arrays.{laid-ext}
 use Rattle.document.proofs.Squares.{singular-same, inverse-same}
 use Rattle.document.proofs.Reading.{listed-small, square-shaped, square-at}
-use Rattle.reading.specs.Steps.{lineIn, noLines, paddedSquare, paddedEnd, sumFrom, dataBy}
+use Rattle.reading.specs.Steps.{lineIn, zeroLines, paddedSquare, paddedEnd, sumFrom, dataBy}
 
 -- an entry of a list that repeats one thing, or of nothing past its end
 repeated {ℓ} : {X : Type ℓ} (P : X → Type 0) (n i : ℕ) (v d : X) → P v → P d → P (getD (replicate n v) i d)
@@ -63,12 +63,12 @@ module _ (p : Profile) (acc : Accepted p) (nodes : List ℕ) where
       → lineAt (paddedSquare p nodes) z
       ≡ listed 80 (λ e. number (coefficientAt p (joinedPlace p nodes z) (dataPlace p e)))
   unfolding paddedSquare lineIn
-  padded-line z h = ap (λ (l : Line). l .c) (filled-at lineOfStrip noLines m z noLine h few)
+  padded-line z h = ap (λ (l : Line). l .c) (filled-at lineOfStrip zeroLines m z noLine h few)
 
   -- the lines past it
-  padded-rest : (z : ℕ) → m ≤ z → lineAt (paddedSquare p nodes) z ≡ lineAt noLines z
+  padded-rest : (z : ℕ) → m ≤ z → lineAt (paddedSquare p nodes) z ≡ lineAt zeroLines z
   unfolding paddedSquare
-  padded-rest z h = ap (λ (l : Line). l .c) (filled-rest lineOfStrip noLines m z noLine h)
+  padded-rest z h = ap (λ (l : Line). l .c) (filled-rest lineOfStrip zeroLines m z noLine h)
 
   -- each entry is a byte, a missing one too
   padded-small : (z e : ℕ) → entry (paddedSquare p nodes) z e < 256
@@ -88,7 +88,7 @@ module _ (p : Profile) (acc : Accepted p) (nodes : List ℕ) where
 
   padded-length : length (paddedSquare p nodes) ≡ 80
   unfolding paddedSquare
-  padded-length = filled-length lineOfStrip noLines m ∙ length-replicate {A = Line} 80 (record { c = replicate 80 0 })
+  padded-length = filled-length lineOfStrip zeroLines m ∙ length-replicate {A = Line} 80 (record { c = replicate 80 0 })
 
   pub padded-shaped : Shaped m m (paddedSquare p nodes)
   padded-shaped = record {
@@ -104,30 +104,30 @@ module _ (p : Profile) (acc : Accepted p) (nodes : List ℕ) where
       ∙ ap byte (listed-at 80 _ e 0 (omega (arith, few))) ∙ byte-number _ ∙ sym (square-at p nodes z e h l)
 
   padded-singular : singular (paddedEnd p nodes) ≡ ambiguous p nodes
-  unfolding ambiguous readingOf
+  unfolding ambiguous eliminationOf
   padded-singular =
       singular-same padded-shaped (unit-square 80 few) (square-shaped p nodes) (unit-square m (omega arith)) padded-same
 
   -- the verdict tells whether the nodes are ambiguous
-  pub verdict-singular : (r : ℕ) → outcomeOf (paddedEnd p nodes) .verdict ≡ Singular r → ambiguous p nodes ≡ true
+  pub verdict-singular : (r : ℕ) → verdictAndLines (paddedEnd p nodes) .verdict ≡ Singular r → ambiguous p nodes ≡ true
   verdict-singular r e = sym padded-singular ∙ go (paddedEnd p nodes) e
     where
-      go : (x : Ended) → outcomeOf x .verdict ≡ Singular r → singular x ≡ true
+      go : (x : Ended) → verdictAndLines x .verdict ≡ Singular r → singular x ≡ true
       go (whole t) q = absurd (let z : _≡_ {A = ℕ} 0 1 = cc in omega arith)
       go (stuck c a) q = refl
 
-  pub verdict-regular : outcomeOf (paddedEnd p nodes) .verdict ≡ Regular → ambiguous p nodes ≡ false
+  pub verdict-regular : verdictAndLines (paddedEnd p nodes) .verdict ≡ Regular → ambiguous p nodes ≡ false
   verdict-regular e = sym padded-singular ∙ go (paddedEnd p nodes) e
     where
-      go : (x : Ended) → outcomeOf x .verdict ≡ Regular → singular x ≡ false
+      go : (x : Ended) → verdictAndLines x .verdict ≡ Regular → singular x ≡ false
       go (whole t) q = refl
       go (stuck c a) q = absurd (let z : _≡_ {A = ℕ} 0 1 = cc in omega arith)
 
   -- the data by its inverse are those that document 01 reads back
   module _ (x : List ℕ) where
-    by-inverse : (u v : List Line) → paddedEnd p nodes ≡ whole u → readingOf p nodes ≡ whole v
+    by-inverse : (u v : List Line) → paddedEnd p nodes ≡ whole u → eliminationOf p nodes ≡ whole v
         → dataBy p u x ≡ dataFrom p nodes x
-    unfolding dataBy dataFrom sumFrom matrix inverseOf readingOf
+    unfolding dataBy dataFrom sumFrom matrix inverseOf eliminationOf
     by-inverse u v e f =
         laid-ext p k _ _
         (λ b j i l h r. sum-ext bytes m (λ z w.
@@ -136,13 +136,13 @@ module _ (p : Profile) (acc : Accepted p) (nodes : List ℕ) where
         e f (i * k + j) z (omega (arith, digits-lt r h, mul-comm A k)) w
         ∙ ap (λ (y : Ended). byte (entry (inverseIn p y) (i * k + j) z)) (sym f))))
 
-    pub padded-data : outcomeOf (paddedEnd p nodes) .verdict ≡ Regular
-        → dataBy p (outcomeOf (paddedEnd p nodes) .lines) x ≡ dataFrom p nodes x
-    unfolding ambiguous readingOf
-    padded-data e = go (paddedEnd p nodes) (readingOf p nodes) refl refl e (verdict-regular e)
+    pub padded-data : verdictAndLines (paddedEnd p nodes) .verdict ≡ Regular
+        → dataBy p (verdictAndLines (paddedEnd p nodes) .lines) x ≡ dataFrom p nodes x
+    unfolding ambiguous eliminationOf
+    padded-data e = go (paddedEnd p nodes) (eliminationOf p nodes) refl refl e (verdict-regular e)
       where
-        go : (y z : Ended) → paddedEnd p nodes ≡ y → readingOf p nodes ≡ z → outcomeOf y .verdict ≡ Regular
-            → singular (readingOf p nodes) ≡ false → dataBy p (outcomeOf y .lines) x ≡ dataFrom p nodes x
+        go : (y z : Ended) → paddedEnd p nodes ≡ y → eliminationOf p nodes ≡ z → verdictAndLines y .verdict ≡ Regular
+            → singular (eliminationOf p nodes) ≡ false → dataBy p (verdictAndLines y .lines) x ≡ dataFrom p nodes x
         go (whole u) (whole v) f g r s = by-inverse u v f g
         go (whole u) (stuck c a) f g r s =
             let d : true ≡ false = sym (ap singular g) ∙ s in absurd (false≢true (sym d))

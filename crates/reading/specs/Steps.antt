@@ -1,10 +1,10 @@
 -- What the steps of reading back leave.
 --
 -- lineIn p q                 : the coefficients of the data symbols in what is stored at q, in a line of 80
--- noLines                    : an array of 80 lines of zeros
+-- zeroLines                    : an array of 80 lines of zeros
 -- paddedSquare p nodes       : the coefficient square in an array of 80 lines of 80: zeros past its lines
 -- paddedEnd p nodes          : how its elimination ends
--- sumFrom line x z s b       : byte b of the first z strips of x, of s bytes each, each times its entry of the line, added up
+-- sumFrom line x count s b   : byte b of the first `count` strips of x, of s bytes each, each times its entry of the line, added up
 -- stripFrom line x count s   : the strip of s such bytes
 -- addedFrom x z f y          : y with f times strip z of x added, where the strips are as long as y
 -- dataBy p inverse x         : the data by the lines of an inverse: strip q of the data by line dataIndex q
@@ -35,11 +35,11 @@ open Field bytes using (mul as _⊗_)
 unfoldable pub lineIn : Profile → Place → Line
 lineIn p q = record { c = listed 80 (λ e. number (coefficientAt p q (dataPlace p e))) }
 
-abbrev pub noLines : List Line
-noLines = replicate 80 (record { c = replicate 80 0 })
+abbrev pub zeroLines : List Line
+zeroLines = replicate 80 (record { c = replicate 80 0 })
 
 unfoldable pub paddedSquare : Profile → List ℕ → List Line
-paddedSquare p nodes = filled (λ z. lineIn p (joinedPlace p nodes z)) noLines (p .k * p .a)
+paddedSquare p nodes = filled (λ z. lineIn p (joinedPlace p nodes z)) zeroLines (p .k * p .a)
 
 abbrev pub paddedEnd : Profile → List ℕ → Ended
 paddedEnd p nodes = eliminated (p .k * p .a) (p .k * p .a) (paddedSquare p nodes) (unitSquare 80)

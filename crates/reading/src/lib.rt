@@ -5,7 +5,7 @@ ghost use Prim.Native.Nat.{_+_, _*_, _/_, _%_, _≤_, _<_};
 ghost use lib.ListN.{length};
 ghost use Rattle.ksets.specs.Sets.{Rising};
 ghost use Rattle.square.specs.Steps.{lineAt};
-ghost use Rattle.square.specs.Elimination.{outcomeOf};
+ghost use Rattle.square.specs.Elimination.{verdictAndLines};
 ghost use Rattle.document.specs.Profile.{Accepted};
 ghost use Rattle.document.specs.Places.{place};
 ghost use Rattle.document.specs.Reading.{listAccepted, joinedPlace, dataIndex, readOf};
@@ -25,7 +25,7 @@ use square::Verdict;
 
 // Whether the list is k strictly rising numbers below n.
 fn accepts_list(nodes: &[u8], n: usize, k: usize) -> bool
-    ensures { λ r. ⌜ r ≡ listAccepted n k 0 (now (nodes .entry)) ⌝ }
+    ensures { λ r. ⌜ r ≡ listAccepted n 0 k (now (nodes .entry)) ⌝ }
 {
     if nodes.len() != k {
         return false;
@@ -134,7 +134,7 @@ fn put_data(out: &mut [u8], p: Profile, columns: &[u8], inverse: [Line; 80])
 // The elimination of the named nodes' coefficient square.
 fn eliminate(p: Profile, nodes: &[u8]) -> Eliminated
     requires { ⌜ Accepted p × Rising (p .n) (p .k) (now nodes) ⌝ }
-    ensures { λ r. ⌜ r ≡ outcomeOf (paddedEnd p (now (nodes .entry))) ⌝ }
+    ensures { λ r. ⌜ r ≡ verdictAndLines (paddedEnd p (now (nodes .entry))) ⌝ }
 {
     let count = p.k * p.a;
     let width = p.n * p.k;

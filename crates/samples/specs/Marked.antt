@@ -8,7 +8,7 @@
 -- strip j i v         : a field 03 for node j, row i with the strip v of one byte
 -- lent m              : a buffer of m bytes that is lent
 -- rebuilt f fields    : the outcome of a rebuild of node f from such a bundle
--- surveyed t start B  : the outcome of a survey as one list: number, outcome (0 done, 1 failing, 2 open), position, sets
+-- surveyed t start B  : the outcome of a survey as one list: number, outcome (1 failing, 2 done, 3 open), position, sets
 --                       looked at, bytes
 -- marked              : the cases
 -- shown               : what the cases give is what document 01 says
@@ -24,7 +24,7 @@ use Rattle.gf256.specs.Field.{_⊕_, _⊗_, double, bitProduct, squares, invers
 use Rattle.algebra.specs.Sum.{sum}
 use Rattle.algebra.specs.Weight.{weight}
 use Rattle.strips.specs.Strips.{addedScaled}
-use Rattle.square.specs.Steps.{filled, stepped, lifted, factorAt, pivotIn, unitLine, unitSquare}
+use Rattle.square.specs.Steps.{filled, stepped, lifted, multiplierAt, pivotIn, unitLine, unitSquare}
 use Rattle.square.specs.Elimination.{endFrom}
 use Rattle.ksets.specs.Sets.{sets, setAt}
 use Rattle.document.specs.declared.Numbers.{Numbers}
@@ -80,7 +80,7 @@ use Rattle.document.specs.Reading.{
   coefficientAt,
   lineOf,
   squareOf,
-  readingOf,
+  eliminationOf,
   ambiguous,
   readTests,
   readOf,
@@ -177,10 +177,10 @@ marked =
       says = 10 ∷ 0 ∷ 0xFF ∷ 0xFF ∷ 0xFF ∷ 0xFF ∷ [];
     }
     ∷ record { gives = surveyed 5 0 6; says = 0 ∷ 1 ∷ 2 ∷ 3 ∷ 0x00 ∷ 0x03 ∷ [] }
-    ∷ record { gives = surveyed 2 0 6; says = 0 ∷ 0 ∷ 0 ∷ 6 ∷ 0xFF ∷ 0xFF ∷ [] }
-    ∷ record { gives = surveyed 2 0 2; says = 0 ∷ 2 ∷ 0 ∷ 2 ∷ 0xFF ∷ 0xFF ∷ [] }
-    ∷ record { gives = surveyed 2 0 0; says = 0 ∷ 2 ∷ 0 ∷ 0 ∷ 0xFF ∷ 0xFF ∷ [] }
-    ∷ record { gives = surveyed 2 6 0; says = 0 ∷ 0 ∷ 0 ∷ 0 ∷ 0xFF ∷ 0xFF ∷ [] }
+    ∷ record { gives = surveyed 2 0 6; says = 0 ∷ 2 ∷ 0 ∷ 6 ∷ 0xFF ∷ 0xFF ∷ [] }
+    ∷ record { gives = surveyed 2 0 2; says = 0 ∷ 3 ∷ 0 ∷ 2 ∷ 0xFF ∷ 0xFF ∷ [] }
+    ∷ record { gives = surveyed 2 0 0; says = 0 ∷ 3 ∷ 0 ∷ 0 ∷ 0xFF ∷ 0xFF ∷ [] }
+    ∷ record { gives = surveyed 2 6 0; says = 0 ∷ 2 ∷ 0 ∷ 0 ∷ 0xFF ∷ 0xFF ∷ [] }
     ∷ []
 
 -- Each marked case gives what document 01 says.
@@ -191,7 +191,7 @@ unfolding marked lent encodeOf encodeTests profileTests shapeAccepted constantAc
     pairsAt planBytes isOwn isDiagonal isOffDiagonal rising rebuildOf rebuildTests bundleTests openedAt formed headed
     placed fresh placeIn recordingIn stripFieldStart plannedAt slice same all opening twoBytes fourBytes
     profileContent lostContent recordingBytes rebuiltOf rebuiltOver givenAt positionOf samePlace columnOf
-    rebuiltAt rowAt otherAt base factor readOf readTests listAccepted numberOf indexOf ambiguous readingOf squareOf
-    lineOf coefficientAt endFrom pivotIn lifted stepped filled factorAt addedScaled patched unitSquare unitLine
+    rebuiltAt rowAt otherAt base factor readOf readTests listAccepted numberOf ambiguous indexOf eliminationOf squareOf
+    lineOf coefficientAt endFrom pivotIn lifted stepped filled multiplierAt addedScaled patched unitSquare unitLine
     surveyOf surveyTests resultOf foundFrom failsAt firstIn sets setAt surveyAnswer outcomeNumber positionIn lookedIn
 shown = refl

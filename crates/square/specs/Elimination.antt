@@ -1,18 +1,19 @@
--- The elimination of a square, column by column. A companion goes through the same steps; where it was the unit square
--- and each column has a pivot, it becomes the inverse.
+-- The elimination of a square, column by column. What stands beside the square goes through the same steps, as the right
+-- half of an augmented matrix does: where it was the unit square, rows and columns are equally many and each column has a
+-- pivot, it becomes the inverse (`regular` in document/proofs/Squares.antt).
 --
--- Ended                        : how an elimination ends: each column done, with the companion as it is then; or a column
---                                that has no pivot, with the square as it is then
--- endFrom rows n r a t         : n columns to do from column r on, on the square a with the companion t
--- clearing rows r next b u     : column r cleared in b and its companion u, both handed on to next
--- eliminated rows columns s t  : the elimination of s, with the companion t
--- outcomeOf e                  : the verdict, with the companion or the square
+-- Ended                        : how an elimination ends: with each column done and the right half as it is then, or with a
+--                                column that has no pivot and the square as it is then
+-- atPivot p go none            : what is done with a pivot, and without one
+-- clearing rows r next b u     : column r cleared in b and its right half u, both handed on to next
+-- endFrom rows n r a t         : n columns to do from column r on, on the square a with the right half t
+-- eliminated rows columns s t  : the elimination of s with the right half t
+-- verdictAndLines e            : the verdict, with the lines of the right half or of the square
 -- singular e                   : the test whether a column has no pivot
 -- kernelFrom columns r a       : the vector that is read off a square a with no pivot in column r: the entries of the
---                                column above line r, 1 at r, 0 below
--- kernelOf columns e           : the same from how the elimination ended; nothing where each column is done
+--                                column above line r, 1 at r, 0 below. The square takes it to zero (`stuck-kernel`)
 use mathlib.Core.Bool.{Bool, true, false, cond}
-use mathlib.Core.List.{List, []}
+use mathlib.Core.List.{List}
 use Prim.Native.Nat.{ℕ, zero, suc}
 use lib.Dec.{eqb, ltb}
 use Rattle.lists.specs.Listed.{listed}
@@ -21,7 +22,7 @@ use Rattle.square.specs.declared.Pivot.{Pivot}
 use Rattle.square.specs.declared.Pivot.the-variants.{At, Missing}
 use Rattle.square.specs.declared.Verdict.the-variants.{Regular, Singular}
 use Rattle.square.specs.declared.Eliminated.{Eliminated}
-use Rattle.square.specs.Steps.{entry, stepped, lifted, factorAt, pivotFrom}
+use Rattle.square.specs.Steps.{entry, stepped, lifted, multiplierAt, pivotFrom}
 
 pub data Ended : Type 0 where
   whole : List Line → Ended
@@ -32,9 +33,9 @@ abbrev pub atPivot : Pivot → (ℕ → Ended) → Ended → Ended
 atPivot (At p) go none = go p
 atPivot Missing go none = none
 
--- Column r is cleared by the pivot in line r of b, and `next` goes on with the square and the companion.
+-- Column r is cleared by the pivot in line r of b, and `next` goes on with the square and the right half.
 abbrev pub clearing : ℕ → ℕ → (List Line → List Line → Ended) → List Line → List Line → Ended
-clearing rows r next b u = next (stepped (factorAt b r r) r b rows) (stepped (factorAt b r r) r u rows)
+clearing rows r next b u = next (stepped (multiplierAt b r r) r b rows) (stepped (multiplierAt b r r) r u rows)
 
 -- A zero pivot looks for another line, and only a column with none ends the elimination.
 unfoldable pub endFrom : ℕ → ℕ → ℕ → List Line → List Line → Ended
@@ -46,9 +47,9 @@ endFrom rows (suc n) r a t =
 abbrev pub eliminated : ℕ → ℕ → List Line → List Line → Ended
 eliminated rows columns s t = endFrom rows columns 0 s t
 
-abbrev pub outcomeOf : Ended → Eliminated
-outcomeOf (whole t) = record { verdict = Regular; lines = t }
-outcomeOf (stuck r a) = record { verdict = Singular r; lines = a }
+abbrev pub verdictAndLines : Ended → Eliminated
+verdictAndLines (whole t) = record { verdict = Regular; lines = t }
+verdictAndLines (stuck r a) = record { verdict = Singular r; lines = a }
 
 abbrev pub singular : Ended → Bool
 singular (whole t) = false
@@ -56,7 +57,3 @@ singular (stuck r a) = true
 
 unfoldable pub kernelFrom : ℕ → ℕ → List Line → List ℕ
 kernelFrom columns r a = listed columns (λ j. cond (ltb j r) (entry a j r) (cond (eqb j r) 1 0))
-
-abbrev pub kernelOf : ℕ → Ended → List ℕ
-kernelOf columns (whole t) = []
-kernelOf columns (stuck r a) = kernelFrom columns r a

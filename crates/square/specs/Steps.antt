@@ -1,12 +1,13 @@
--- A square as a list of lines, and the steps of its elimination. The lists may have any lengths; an entry that is missing
--- counts as 0.
+-- A square as a list of lines, and the steps of its elimination. A column here is that of a matrix, not a node's. The lists
+-- may have any lengths; an entry that is missing counts as 0.
 --
+-- noLine              : the line that stands past the end
 -- lineAt s i          : the entries of line i of s
 -- entry s i j         : the entry of line i in column j
 -- filled f l n        : l with its first n entries replaced by f 0, f 1, ..
 -- stepped c p s rows  : s, with c i times line p added to each line i below rows
 -- lifted r p s        : s, with line p added to line r where they are two
--- factorAt s r j i    : what line i is given of line r, so that column j has 1 in line r and 0 elsewhere
+-- multiplierAt s r j i : what line i is given of line r, so that column j has 1 in line r and 0 elsewhere
 -- pivotIn s j i n     : the first of n lines from i on whose entry in column j is not 0
 -- pivotFrom s j i rows : the same of the lines from i on, below rows
 -- unitLine m r        : line r of the unit square of m lines
@@ -23,7 +24,6 @@ use Rattle.square.specs.declared.Line.{Line}
 use Rattle.square.specs.declared.Pivot.{Pivot}
 use Rattle.square.specs.declared.Pivot.the-variants.{At, Missing}
 
--- the line that stands past the end
 abbrev pub noLine : Line
 noLine = record { c = [] }
 
@@ -37,7 +37,7 @@ unfoldable pub filled {ℓ} : {X : Type ℓ} → (ℕ → X) → List X → ℕ 
 filled f l zero = l
 filled f l (suc n) = set (filled f l n) n (f n)
 
--- The one kind of row step: all lines are given a multiple of one line.
+-- The one kind of step: all lines are given a multiple of one line.
 unfoldable pub stepped : (ℕ → ℕ) → ℕ → List Line → ℕ → List Line
 stepped c p s rows = filled (λ i. record { c = addedScaled (c i) 0 (lineAt s p) (lineAt s i) }) s rows
 
@@ -46,8 +46,8 @@ unfoldable pub lifted : ℕ → ℕ → List Line → List Line
 lifted r p s = cond (eqb p r) s (set s r (record { c = addedScaled 1 0 (lineAt s p) (lineAt s r) }))
 
 -- Each other line loses its entry in the column; in line r the pivot becomes 1.
-unfoldable pub factorAt : List Line → ℕ → ℕ → ℕ → ℕ
-factorAt s r j i = cond (eqb i r) (1 ⊕ inverse (entry s r j)) (inverse (entry s r j) ⊗ entry s i j)
+unfoldable pub multiplierAt : List Line → ℕ → ℕ → ℕ → ℕ
+multiplierAt s r j i = cond (eqb i r) (1 ⊕ inverse (entry s r j)) (inverse (entry s r j) ⊗ entry s i j)
 
 unfoldable pub pivotIn : List Line → ℕ → ℕ → ℕ → Pivot
 pivotIn s j i zero = Missing

@@ -1,11 +1,11 @@
-// The coefficient square as an array of lines, passed by value through the steps of its elimination. Its rows are called
-// lines, since a row number is something else. Rows and columns are counted apart.
+// The coefficient square as an array of lines, passed by value through the steps of its elimination. A row of it is called
+// a line, since `Row` is the number of a strip's row; `rows` and `columns` count its lines and columns, apart.
 ghost use mathlib.Core.Path.{_≡_};
 ghost use Prim.Native.Nat.{ℕ, _≤_, _<_};
 ghost use lib.ListN.{getD, replicate};
 ghost use Rattle.strips.specs.Strips.{addedScaled};
-ghost use Rattle.square.specs.Steps.{entry, filled, stepped, lifted, factorAt, pivotFrom, unitLine, unitSquare};
-ghost use Rattle.square.specs.Elimination.{eliminated, outcomeOf};
+ghost use Rattle.square.specs.Steps.{entry, filled, stepped, lifted, multiplierAt, pivotFrom, unitLine, unitSquare};
+ghost use Rattle.square.specs.Elimination.{eliminated, verdictAndLines};
 
 // One line: the coefficients of one equation.
 pub struct Line {
@@ -24,8 +24,9 @@ pub enum Verdict {
     Singular(usize),
 }
 
-// What an elimination comes to: with `Regular` the lines are those of the inverse, with `Singular` those of the square as
-// far as it is reduced, from which a vector is read off that the square takes to zero.
+// What an elimination comes to: with `Regular` the lines are those of the inverse, if rows and columns are equally many;
+// with `Singular` those of the square as far as it is reduced, from which a vector is read off that the square takes to
+// zero.
 pub struct Eliminated {
     pub verdict: Verdict,
     pub lines: [Line; 80],
@@ -96,7 +97,7 @@ fn column_entries(s: [Line; 80], column: usize, rows: usize) -> [u8; 80]
 // pivot, and in line r itself what makes the pivot 1.
 fn factors(s: [Line; 80], r: usize, column: usize, rows: usize) -> [u8; 80]
     requires { ⌜ (r < rows) × (column < 80) × (rows ≤ 80) ⌝ }
-    ensures { λ z. ⌜ ((i : ℕ) → i < rows → getD z i 0 ≡ factorAt s r column i) ⌝ }
+    ensures { λ z. ⌜ ((i : ℕ) → i < rows → getD z i 0 ≡ multiplierAt s r column i) ⌝ }
 {
     let entries = column_entries(s, column, rows);
     let v = gf256::inverse(entries[r]);
@@ -148,7 +149,7 @@ fn unit_square() -> [Line; 80]
 // The inverse of the square, or the square reduced as far as it goes.
 pub fn invert(s: [Line; 80], rows: usize, columns: usize) -> Eliminated
     requires { ⌜ (rows ≤ 80) × (columns ≤ 80) ⌝ }
-    ensures { λ z. ⌜ z ≡ outcomeOf (eliminated rows columns s (unitSquare 80)) ⌝ }
+    ensures { λ z. ⌜ z ≡ verdictAndLines (eliminated rows columns s (unitSquare 80)) ⌝ }
 {
     let mut a = s;
     let mut t = unit_square();
@@ -180,7 +181,7 @@ pub fn invert(s: [Line; 80], rows: usize, columns: usize) -> Eliminated
 // The verdict alone: half the work, for a survey.
 pub fn judge(s: [Line; 80], rows: usize, columns: usize) -> Verdict
     requires { ⌜ (rows ≤ 80) × (columns ≤ 80) ⌝ }
-    ensures { λ z. ⌜ z ≡ outcomeOf (eliminated rows columns s (unitSquare 80)) .verdict ⌝ }
+    ensures { λ z. ⌜ z ≡ verdictAndLines (eliminated rows columns s (unitSquare 80)) .verdict ⌝ }
 {
     let mut a = s;
     let mut r: usize = 0;

@@ -1,12 +1,11 @@
 -- `exports::whaupfield_survey` meets its contract: the answer of a survey, packed.
-use mathlib.Core.Path.{_≡_, sym, ap, _∙_}
+use mathlib.Core.Path.{ap, _∙_}
 use mathlib.Core.List.{List}
 use Prim.Native.Nat.{ℕ}
-use native.Mathlib.Omega.{arith}
 use borrow.Author.Needs.{needs}
 use Rattle.document.specs.declared.Surveyed.{Surveyed}
-use Rattle.document.proofs.Values.{Counted, survey-counted}
 use Rattle.exports.specs.Packed.{packedSurveyWith}
+use Rattle.exports.proofs.Values.{survey-fits}
 use Rattle.exports.proofs.whaupfield_survey.Statement.{statement}
 use Rattle.exports.proofs.whaupfield_survey.Tie as tie
 
@@ -15,10 +14,7 @@ survey-requires c κs = search needs
 
 pack-survey-requires : tie.Need-pack-survey-requires
 pack-survey-requires c κs =
-    let e = c .before .before in
-    let k : Counted (e .survey .result) =
-    rw (ap (λ (o : Surveyed × List ℕ). o .0) (e .survey .ensures)) (survey-counted _ _ _ _) in
-    (omega (arith, k .position), omega (arith, k .looked))
+    rw (ap (λ (o : Surveyed × List ℕ). o .0) (c .before .before .survey .ensures)) (survey-fits _ _ _ _)
 
 same-length : tie.Need-same-length
 same-length c = search needs

@@ -12,7 +12,7 @@ use Rattle.reading.proofs.accepts_list.Tie as tie
 
 abbrev Inv-loop : tie.InvT-loop
 Inv-loop nodes n k lowest₀ i₀ lowest i =
-    (i ≤ length nodes) × (listAccepted n (k - i) lowest (drop i nodes) ≡ listAccepted n k 0 nodes)
+    (i ≤ length nodes) × (listAccepted n lowest (k - i) (drop i nodes) ≡ listAccepted n 0 k nodes)
 
 abbrev μ-loop : tie.MeasureT-loop
 μ-loop nodes n k lowest₀ i₀ lowest i = length nodes - i
@@ -24,7 +24,7 @@ loop-holds : tie.Need-loop-holds Inv-loop μ-loop
 loop-holds c =
     let a = c .before .args in
     let e : a .k - 0 ≡ a .k = omega arith in
-    (omega arith, ap (λ (m : ℕ). listAccepted (a .n) m 0 (a .nodes .now)) e)
+    (omega arith, ap (λ (m : ℕ). listAccepted (a .n) 0 m (a .nodes .now)) e)
 
 shared-slice-read-x : tie.Need-shared-slice-read-x Inv-loop μ-loop
 shared-slice-read-x c = omega (arith, c .before .loop-test .taken)

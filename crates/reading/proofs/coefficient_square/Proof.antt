@@ -17,12 +17,12 @@ use Rattle.document.specs.Reading.{coefficientAt, dataPlace, joinedPlace}
 use Rattle.document.proofs.Bounds.{square-bound}
 use Rattle.ksets.proofs.Ranked.{risen-length}
 use Rattle.document.proofs.Reading.{joined-within}
-use Rattle.reading.specs.Steps.{lineIn, noLines, paddedSquare}
+use Rattle.reading.specs.Steps.{lineIn, zeroLines, paddedSquare}
 use Rattle.reading.proofs.coefficient_square.Statement.{statement}
 use Rattle.reading.proofs.coefficient_square.Tie as tie
 
 abbrev Inv-loop : tie.InvT-loop
-Inv-loop p table nodes count s₀ z₀ s z = (z ≤ count) × (s ≡ filled (λ z. lineIn p (joinedPlace p nodes z)) noLines z)
+Inv-loop p table nodes count s₀ z₀ s z = (z ≤ count) × (s ≡ filled (λ z. lineIn p (joinedPlace p nodes z)) zeroLines z)
 
 abbrev μ-loop : tie.MeasureT-loop
 μ-loop p table nodes count s₀ z₀ s z = count - z
@@ -79,7 +79,7 @@ loop-again c =
           (c .line .ensures
           ∙ ap (λ (q : Place). listed 80 (λ e. number (coefficientAt (p t) q (dataPlace (p t) e))))
           (c .before .joined-place .ensures))
-          ∙ filled-next (λ z. lineIn (p t) (joinedPlace (p t) (s .args .nodes .now) z)) noLines (l .z),
+          ∙ filled-next (λ z. lineIn (p t) (joinedPlace (p t) (s .args .nodes .now) z)) zeroLines (l .z),
     )
 
 returns : tie.Need-returns Inv-loop μ-loop
@@ -89,7 +89,7 @@ returns c =
     let s = c .before .before .before .before .before in
     let e : l .z ≡ s .args .p .k * s .args .p .a = omega (arith, c .loop-test .left) in
     l .inv .1
-    ∙ ap (filled (λ z. lineIn (s .args .p) (joinedPlace (s .args .p) (s .args .nodes .now) z)) noLines) e
+    ∙ ap (filled (λ z. lineIn (s .args .p) (joinedPlace (s .args .p) (s .args .nodes .now) z)) zeroLines) e
 
 pub coefficient-square-spec : {M : Type 1} → statement M
 coefficient-square-spec =

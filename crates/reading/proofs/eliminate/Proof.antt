@@ -9,7 +9,7 @@ use lib.Seq.{length-take-le}
 use Rattle.lists.proofs.Lent.{front-fits, front}
 use Rattle.square.specs.declared.Line.{Line}
 use Rattle.square.specs.Steps.{unitSquare}
-use Rattle.square.specs.Elimination.{eliminated, outcomeOf}
+use Rattle.square.specs.Elimination.{eliminated, verdictAndLines}
 use Rattle.document.proofs.Bounds.{square-bound, table-bound}
 use Rattle.coefficients.specs.Data.{weightTable}
 use Rattle.coefficients.proofs.Data.{table-length}
@@ -72,7 +72,7 @@ returns c =
     let s = start (q .before .before .before) in
     let m : ℕ = s .args .p .k * s .args .p .a in
     c .invert .ensures
-    ∙ ap (λ (x : List Line). outcomeOf (eliminated m m x (unitSquare 80))) (q .coefficient-square .ensures)
+    ∙ ap (λ (x : List Line). verdictAndLines (eliminated m m x (unitSquare 80))) (q .coefficient-square .ensures)
 
 pub eliminate-spec : {M : Type 1} → statement M
 eliminate-spec =

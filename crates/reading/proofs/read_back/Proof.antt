@@ -56,7 +56,7 @@ returns c =
 -- past the list's test
 listed-nodes : (c : tie.Else1)
     → let k = c .before .before .before in
-    listAccepted (q k .n) (q k .k) 0 (start k .args .nodes .now) ≡ true
+    listAccepted (q k .n) 0 (q k .k) (start k .args .nodes .now) ≡ true
 listed-nodes c = sym (c .before .accepts-list .ensures) ∙ not-false _ (c .if1 .left)
 
 mul-size : tie.Need-mul-size

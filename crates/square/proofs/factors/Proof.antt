@@ -11,7 +11,7 @@ use Rattle.gf256.specs.Field.{_⊕_, _⊗_, inverse}
 use Rattle.gf256.proofs.Ring.{zero-add}
 use Rattle.strips.specs.Strips.{addedScaled}
 use Rattle.square.specs.declared.Line.{Line}
-use Rattle.square.specs.Steps.{entry, filled, factorAt}
+use Rattle.square.specs.Steps.{entry, filled, multiplierAt}
 use Rattle.square.proofs.Steps.{filled-at, set-at, added-length, added-at}
 use borrow.Author.Needs.{needs}
 use Rattle.square.proofs.factors.Statement.{statement}
@@ -53,8 +53,8 @@ module _ (s : List Line) (r j rows m : ℕ) (h : r < rows) (k : rows ≤ m) wher
   entry-at i l = filled-at (λ i. entry s i j) zeros rows i 0 l (omega (arith, size))
 
   factor-at : (es : List ℕ) (v : ℕ) → es ≡ entries → v ≡ inverse (getD es r 0) → (i : ℕ) → i < rows
-      → getD (set (addedScaled v 0 es zeros) r (1 ⊕ v)) i 0 ≡ factorAt s r j i
-  unfolding factorAt
+      → getD (set (addedScaled v 0 es zeros) r (1 ⊕ v)) i 0 ≡ multiplierAt s r j i
+  unfolding multiplierAt
   factor-at es v ee ev i l =
       let same : (i : ℕ) → i < rows → getD es i 0 ≡ entry s i j =
       λ i l. ap (λ (x : List ℕ). getD x i 0) ee ∙ entry-at i l in

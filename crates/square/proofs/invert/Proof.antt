@@ -1,4 +1,4 @@
--- `square::invert` meets its contract. The loop's invariant: the elimination that is left, on the square and companion
+-- `square::invert` meets its contract. The loop's invariant: the elimination that is left, on the square and right half
 -- reached, ends as the whole one does.
 use mathlib.Core.Path.{_≡_, sym, ap, _∙_}
 use Prim.Native.Nat.{ℕ, _-_, _≤_}
@@ -6,7 +6,7 @@ use native.Mathlib.Omega.{arith}
 use lib.ListN.{getD}
 use Rattle.square.specs.declared.Pivot.the-variants.{At}
 use Rattle.square.specs.Steps.{pivotFrom}
-use Rattle.square.specs.Elimination.{endFrom, eliminated, outcomeOf}
+use Rattle.square.specs.Elimination.{endFrom, eliminated, verdictAndLines}
 use Rattle.square.proofs.Pivots.{pivoted}
 use Rattle.square.proofs.Ends.{end-turn, end-none, end-all}
 use borrow.Author.Needs.{needs}
@@ -68,7 +68,7 @@ returns c =
     let l = f .before .before .loop in
     let u = f .before .before .before in
     let g = u .before .args in
-    ap outcomeOf
+    ap verdictAndLines
     (sym (end-none (g .rows) (l .r) (l .a) (l .t) (g .columns) (f .before .loop-test .taken)
     (sym (f .find-pivot .ensures) ∙ c .enum-told .given .1))
     ∙ l .inv .1 ∙ ap (eliminated (g .rows) (g .columns) (g .s)) (u .unit-square .ensures))
@@ -99,7 +99,7 @@ returns-2 c =
     let l = c .before .loop in
     let u = c .before .before in
     let g = u .before .args in
-    ap outcomeOf
+    ap verdictAndLines
     (sym (end-all (g .rows) (l .r) (l .a) (l .t) (g .columns) (c .loop-test .left)) ∙ l .inv .1
     ∙ ap (eliminated (g .rows) (g .columns) (g .s)) (u .unit-square .ensures))
 

@@ -1,4 +1,4 @@
--- `square::judge` meets its contract. The loop keeps no companion: the invariant takes the unit square for it at each
+-- `square::judge` meets its contract. The loop keeps no right half: the invariant takes the unit square for it at each
 -- column, since the verdict does not turn on it.
 use mathlib.Core.Path.{_≡_, refl, sym, ap, _∙_}
 use mathlib.Core.List.{List}
@@ -9,16 +9,16 @@ use Rattle.square.specs.declared.Line.{Line}
 use Rattle.square.specs.declared.Verdict.{Verdict}
 use Rattle.square.specs.declared.Pivot.the-variants.{At}
 use Rattle.square.specs.Steps.{pivotFrom, unitSquare}
-use Rattle.square.specs.Elimination.{Ended, endFrom, outcomeOf}
+use Rattle.square.specs.Elimination.{Ended, endFrom, verdictAndLines}
 use Rattle.square.proofs.Pivots.{pivoted}
 use Rattle.square.proofs.Ends.{end-turn, end-none, end-all, verdict-alone}
 use borrow.Author.Needs.{needs}
 use Rattle.square.proofs.judge.Statement.{statement}
 use Rattle.square.proofs.judge.Tie as tie
 
--- The verdict where the companion is the unit square.
+-- The verdict where the right half is the unit square.
 abbrev verdictFrom : ℕ → ℕ → ℕ → List Line → Verdict
-verdictFrom rows n r a = outcomeOf (endFrom rows n r a (unitSquare 80)) .verdict
+verdictFrom rows n r a = verdictAndLines (endFrom rows n r a (unitSquare 80)) .verdict
 
 abbrev Inv-loop : tie.InvT-loop
 Inv-loop rows columns a₀ r₀ a r =
@@ -65,7 +65,7 @@ returns c =
     let f = c .before .before in
     let l = f .before .before .loop in
     let g = f .before .before .before .args in
-    sym (ap (λ (x : Ended). outcomeOf x .verdict)
+    sym (ap (λ (x : Ended). verdictAndLines x .verdict)
     (end-none (g .rows) (l .r) (l .a) (unitSquare 80) (g .columns) (f .before .loop-test .taken)
     (sym (f .find-pivot .ensures) ∙ c .enum-told .given .1)))
     ∙ l .inv .1
@@ -86,7 +86,7 @@ loop-again c =
     let g = at .before .args in (
       search needs,
       verdict-alone (g .rows) (g .columns - (l .r + 1)) (l .r + 1) (c .step .result) (unitSquare 80) _
-          ∙ ap (λ (x : Ended). outcomeOf x .verdict)
+          ∙ ap (λ (x : Ended). verdictAndLines x .verdict)
           (end-turn (g .rows) (l .r) (l .a) (unitSquare 80) (g .columns) (λ i. getD (k .factors .result) i 0)
           (f .before .before .before .loop-test .taken) (found f) (b .lift .ensures) refl (k .factors .ensures)
           (c .step .ensures) refl)
@@ -97,7 +97,7 @@ returns-2 : tie.Need-returns-2 Inv-loop μ-loop
 returns-2 c =
     let l = c .before .loop in
     let g = c .before .before .args in
-    sym (ap (λ (x : Ended). outcomeOf x .verdict)
+    sym (ap (λ (x : Ended). verdictAndLines x .verdict)
     (end-all (g .rows) (l .r) (l .a) (unitSquare 80) (g .columns) (c .loop-test .left)))
     ∙ l .inv .1
 

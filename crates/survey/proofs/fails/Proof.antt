@@ -6,7 +6,7 @@ use native.Mathlib.Omega.{arith}
 use borrow.Author.Needs.{needs}
 use Rattle.square.specs.declared.Line.{Line}
 use Rattle.square.specs.Steps.{unitSquare}
-use Rattle.square.specs.Elimination.{eliminated, outcomeOf}
+use Rattle.square.specs.Elimination.{eliminated, verdictAndLines}
 use Rattle.document.proofs.Bounds.{square-bound}
 use Rattle.reading.specs.Steps.{paddedEnd}
 use Rattle.reading.proofs.Padded.{verdict-singular, verdict-regular}
@@ -30,11 +30,11 @@ module _ (c : tie.After-judge) where
   abbrev start : tie.Start
   start = c .before .before .before .before .before
 
-  judged : c .judge .result ≡ outcomeOf (paddedEnd (start .args .p) (start .args .set .now)) .verdict
+  judged : c .judge .result ≡ verdictAndLines (paddedEnd (start .args .p) (start .args .set .now)) .verdict
   judged =
       let p = start .args .p in
       c .judge .ensures
-      ∙ ap (λ (s : List Line). outcomeOf (eliminated (p .k * p .a) (p .k * p .a) s (unitSquare 80)) .verdict)
+      ∙ ap (λ (s : List Line). verdictAndLines (eliminated (p .k * p .a) (p .k * p .a) s (unitSquare 80)) .verdict)
       (c .before .coefficient-square .ensures)
 
 enum-told : tie.Need-enum-told
