@@ -8,10 +8,13 @@
  *
  * Answers: WHAUPFIELD_NUMBER is 0 on success, otherwise the number of the refusal; WHAUPFIELD_VALUE is what comes with it.
  *   1  n, k or a not accepted        2  t not in 2..255        3  s is 0 or above 512
- *   4  the lost node is not below n  5  a lent buffer other than a bundle to read has the wrong length
+ *   4  the lost node is not below n; the node list is not k strictly rising numbers below n; the survey's start is above
+ *      the number of sets
+ *   5  a lent buffer other than a bundle to read has the wrong length
  *   6  the bundle's total length, its tags or its field lengths are not those of the wanted profile and node
  *   7  the content of its field 01 or 02 is not the wanted profile, node and scenario
  *   8  a strip's place is not the plan's             9  a strip's scenario is not the wanted one
+ *  10  some two different data give equal columns on the named nodes: they cannot be read back from, whatever the columns
  * The first in this order that applies is the answer: a misplaced strip goes before a stale one, wherever they stand.
  * With 8 and 9 comes the index of the first such strip, from 0 in plan order; with the others 0.
  *
@@ -21,7 +24,7 @@
  *   03 and the length 6 + s, once for each place of the plan, in its order: node, row, scenario in four bytes, the strip
  * A host that fetches the planned strips itself can put one together.
  *
- * A rebuild takes some 20 KB of stack, the other calls less.
+ * Reading back takes some 50 KB of stack, a survey 30 KB, a rebuild 20 KB, the other calls less.
  */
 #ifndef WHAUPFIELD_H
 #define WHAUPFIELD_H
@@ -31,6 +34,13 @@
 
 #define WHAUPFIELD_NUMBER(answer) ((unsigned)((answer) & 0xFF))
 #define WHAUPFIELD_VALUE(answer) ((answer) >> 8)
+
+/* The parts of a survey's value. With a refusal all three are 0. */
+#define WHAUPFIELD_OUTCOME(answer) ((unsigned)((answer) >> 8 & 3))
+#define WHAUPFIELD_POSITION(answer) ((answer) >> 10 & 0x3FFFFF)
+#define WHAUPFIELD_LOOKED(answer) ((answer) >> 32)
+
+enum { WHAUPFIELD_FAILING = 1, WHAUPFIELD_DONE = 2, WHAUPFIELD_OPEN = 3 };
 
 #ifdef __cplusplus
 extern "C" {
@@ -62,6 +72,26 @@ uint64_t whaupfield_write_bundle(size_t n, size_t k, size_t a, size_t t, size_t 
 uint64_t whaupfield_rebuild(size_t n, size_t k, size_t a, size_t t, size_t s, size_t lost, uint32_t scenario,
                             const uint8_t *bundle, size_t bundle_length,
                             uint8_t *column, size_t column_length);
+
+/* Read back: writes the k*a*s bytes of data from the columns of k named nodes. nodes holds their k numbers, strictly
+ * rising; columns their k*a*s bytes, the columns joined in the order of the list. Any bytes are the columns of exactly one
+ * data, or the nodes are refused with 10; which of the two turns on the profile and the list alone. Value 0. Refused with
+ * 1, 2, 3, 4, 5 or 10; a list of another length than k is 4. Other libraries call it decode. */
+uint64_t whaupfield_read_back(size_t n, size_t k, size_t a, size_t t, size_t s,
+                              const uint8_t *nodes, size_t nodes_length,
+                              const uint8_t *columns, size_t columns_length,
+                              uint8_t *output, size_t output_length);
+
+/* Survey: looks at the sets of k of n nodes in lexicographic order, from the position start on (0 is the first), at most
+ * `most` of them, for one that cannot be read back from. WHAUPFIELD_OUTCOME is
+ *   WHAUPFIELD_FAILING  one was found; WHAUPFIELD_POSITION is its position, counted from the first set of all, and its k
+ *                       node numbers are written to set
+ *   WHAUPFIELD_DONE     none was found, and no set is left; set stays as it was
+ *   WHAUPFIELD_OPEN     none was found, and sets are left: go on at start + WHAUPFIELD_LOOKED; set stays as it was
+ * WHAUPFIELD_LOOKED is the number of sets looked at, the failing one counted. Neither s nor the data matter. set has k
+ * bytes. start may be the number of sets: done, 0 looked at. Refused with 1, 2, 3, 4 or 5. */
+uint64_t whaupfield_survey(size_t n, size_t k, size_t a, size_t t, size_t s, size_t start, size_t most,
+                           uint8_t *set, size_t set_length);
 
 /* The product of two bytes in the field of 0x11D. */
 uint8_t whaupfield_product(uint8_t a, uint8_t b);

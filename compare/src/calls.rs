@@ -15,30 +15,39 @@ pub trait Call {
 #[derive(Default)]
 pub struct Tally {
     accepted: usize,
-    refused: [usize; 10],
+    refused: [usize; 11],
 }
 
-/// How often a call must be seen to give each of its refusals.
-const OFTEN: usize = 100;
+/// How often a call must be seen to give each of its refusals, and a survey to come to each of its outcomes.
+pub const OFTEN: usize = 100;
 
 impl Tally {
     pub fn compare(&mut self, call: impl Call, random: &mut Random) -> Result<(), String> {
-        match call.compare(random)? {
+        self.count(call.compare(random)?);
+        Ok(())
+    }
+
+    /// Counts a call that agreed, with its refusal if it was refused.
+    pub fn count(&mut self, refusal: Option<Refusal>) {
+        match refusal {
             None => self.accepted += 1,
             Some(refusal) => self.refused[usize::from(refusal.number())] += 1,
         }
-        Ok(())
     }
 
     /// The counts of a call that has the refusals with these numbers.
     pub fn counts(&self, accepted: &'static str, refused: &'static str, numbers: &[u8]) -> Outcome {
+        Ok(vec![Count::of(accepted, self.accepted), self.refused_count(refused, numbers)?])
+    }
+
+    /// The same of the refused calls alone.
+    pub fn refused_count(&self, refused: &'static str, numbers: &[u8]) -> Result<Count, String> {
         let by_refusal: Vec<(u8, usize)> =
             numbers.iter().map(|&number| (number, self.refused[usize::from(number)])).collect();
         if let Some((number, cases)) = by_refusal.iter().find(|(_, cases)| *cases < OFTEN) {
             return Err(format!("{refused}: number {number} was met {cases} times, not {OFTEN}"));
         }
-        let cases = self.refused.iter().sum();
-        Ok(vec![Count::of(accepted, self.accepted), Count { what: refused, cases, by_refusal }])
+        Ok(Count { what: refused, cases: self.refused.iter().sum(), by_refusal })
     }
 }
 

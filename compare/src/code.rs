@@ -6,18 +6,20 @@ pub const MOST_NODES: usize = 24;
 pub const MOST_ROWS: usize = 4;
 pub const MOST_STRIP_BYTES: usize = 512;
 
-/// The refusals, the last two with the index of the first such strip.
+/// The refusals, 8 and 9 with the index of the first such strip. OutOfRange is "lost node not below n; node list not k
+/// strictly rising numbers below n; survey start above the number of sets".
 #[derive(Clone, Copy, PartialEq, Debug)]
 pub enum Refusal {
     NodesOrRows,
     Constant,
     StripLength,
-    LostNode,
+    OutOfRange,
     BufferLength,
     BundleForm,
     BundleHead,
     Misplaced(usize),
     Stale(usize),
+    Ambiguous,
 }
 
 impl Refusal {
@@ -26,12 +28,13 @@ impl Refusal {
             Refusal::NodesOrRows => 1,
             Refusal::Constant => 2,
             Refusal::StripLength => 3,
-            Refusal::LostNode => 4,
+            Refusal::OutOfRange => 4,
             Refusal::BufferLength => 5,
             Refusal::BundleForm => 6,
             Refusal::BundleHead => 7,
             Refusal::Misplaced(_) => 8,
             Refusal::Stale(_) => 9,
+            Refusal::Ambiguous => 10,
         }
     }
 
@@ -133,7 +136,8 @@ impl Profile {
         Place { node: group * self.rows + place.row, row: self.local_column(place) }
     }
 
-    fn places(&self) -> Vec<Place> {
+    /// All places of an array, in its order.
+    pub fn places(&self) -> Vec<Place> {
         (0..self.n).flat_map(|node| (0..self.rows).map(move |row| Place { node, row })).collect()
     }
 
@@ -270,7 +274,7 @@ pub fn plan(profile: &Profile, lost: usize, places_length: usize) -> Result<Vec<
         return Err(refusal);
     }
     if lost >= profile.n {
-        return Err(Refusal::LostNode);
+        return Err(Refusal::OutOfRange);
     }
     let places = profile.planned_places(lost);
     if places_length < 2 * places.len() {

@@ -19,7 +19,7 @@ pub struct Field {
 impl Wanted {
     /// Refusals 1 to 4, the lowest number first.
     fn refusal(&self) -> Option<Refusal> {
-        self.profile.refusal().or((self.lost >= self.profile.n).then_some(Refusal::LostNode))
+        self.profile.refusal().or((self.lost >= self.profile.n).then_some(Refusal::OutOfRange))
     }
 
     /// "Length: 17 + P(9+S), P the number of places." This and all that follow are for numbers that are accepted,

@@ -2,6 +2,7 @@
 
 use crate::code::{Profile, Refusal};
 use crate::download::Wanted;
+use crate::generator::{Found, Survey};
 use crate::random::Random;
 
 extern "C" {
@@ -52,6 +53,30 @@ extern "C" {
         column: *mut u8,
         column_len: usize,
     ) -> u64;
+    fn whaupfield_read_back(
+        n: usize,
+        k: usize,
+        a: usize,
+        t: usize,
+        s: usize,
+        nodes: *const u8,
+        nodes_len: usize,
+        columns: *const u8,
+        columns_len: usize,
+        data: *mut u8,
+        data_len: usize,
+    ) -> u64;
+    fn whaupfield_survey(
+        n: usize,
+        k: usize,
+        a: usize,
+        t: usize,
+        s: usize,
+        start: usize,
+        most: usize,
+        set: *mut u8,
+        set_len: usize,
+    ) -> u64;
     fn whaupfield_product(a: u8, b: u8) -> u8;
     fn whaupfield_inverse(a: u8) -> u8;
 }
@@ -80,6 +105,41 @@ impl Answer {
             Ok(value) => Answer { number: 0, value: value as u64 },
             Err(refusal) => Answer { number: refusal.number(), value: refusal.index() as u64 },
         }
+    }
+}
+
+/// What a survey answers: 0 or the refusal's number in bits 0 to 7, the outcome in bits 8 and 9 (1 failing, 2 done, 3
+/// open), the failing position in bits 10 to 31, the number of sets looked at in the bits above.
+#[derive(Clone, Copy, PartialEq, Debug)]
+pub struct SurveyAnswer {
+    number: u8,
+    outcome: u8,
+    position: u64,
+    looked_at: u64,
+}
+
+impl std::fmt::Display for SurveyAnswer {
+    fn fmt(&self, to: &mut std::fmt::Formatter) -> std::fmt::Result {
+        let SurveyAnswer { number, outcome, position, looked_at } = self;
+        write!(to, "{number} with outcome {outcome}, position {position}, {looked_at} looked at")
+    }
+}
+
+impl SurveyAnswer {
+    fn from_word(word: u64) -> SurveyAnswer {
+        let (outcome, position) = ((word >> 8 & 3) as u8, word >> 10 & 0x3F_FFFF);
+        SurveyAnswer { number: word as u8, outcome, position, looked_at: word >> 32 }
+    }
+
+    /// The answer to give for this survey, or this refusal, which comes with zeros.
+    pub fn due(expected: Result<&Survey, Refusal>) -> SurveyAnswer {
+        let (number, outcome, position, looked_at) = match expected {
+            Err(refusal) => (refusal.number(), 0, 0, 0),
+            Ok(Survey { found: Found::Done, looked_at }) => (0, 2, 0, *looked_at),
+            Ok(Survey { found: Found::Failing { position, .. }, looked_at }) => (0, 1, *position, *looked_at),
+            Ok(Survey { found: Found::Open, looked_at }) => (0, 3, 0, *looked_at),
+        };
+        SurveyAnswer { number, outcome, position: position as u64, looked_at: looked_at as u64 }
     }
 }
 
@@ -168,6 +228,22 @@ pub fn rebuild(wanted: &Wanted, bundle: &mut Lent, column: &mut Lent) -> Answer 
     // Both pointers are to live bytes of the lengths given, in allocations apart.
     let word = unsafe { whaupfield_rebuild(n, k, rows, t, s, lost, scenario, from, bundle.length, to, column.length) };
     Answer::from_word(word)
+}
+
+pub fn read_back(profile: &Profile, nodes: &mut Lent, columns: &mut Lent, data: &mut Lent) -> Answer {
+    let Profile { n, k, rows, t, s } = *profile;
+    let (list, from, to) = (nodes.pointer(), columns.pointer(), data.pointer());
+    // All three pointers are to live bytes of the lengths given, in allocations apart.
+    let word =
+        unsafe { whaupfield_read_back(n, k, rows, t, s, list, nodes.length, from, columns.length, to, data.length) };
+    Answer::from_word(word)
+}
+
+pub fn survey(profile: &Profile, start: usize, most: usize, set: &mut Lent) -> SurveyAnswer {
+    let Profile { n, k, rows, t, s } = *profile;
+    // The pointer is to live bytes of the length given.
+    let word = unsafe { whaupfield_survey(n, k, rows, t, s, start, most, set.pointer(), set.length) };
+    SurveyAnswer::from_word(word)
 }
 
 pub fn product(a: u8, b: u8) -> u8 {

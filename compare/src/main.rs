@@ -1,7 +1,7 @@
 //! Compares the array store's exported C functions with document 01, read here a second time. See README.md.
 //!
-//! To add a call: its declaration and wrapper in library.rs, its definition in code.rs, download.rs or a file beside
-//! them, its kinds in a file of their own, and a line in KINDS. What the kinds share is in calls.rs.
+//! To add a call: its declaration and wrapper in library.rs, its definition in code.rs, download.rs, generator.rs or a
+//! file beside them, its kinds in a file of their own, and a line in KINDS. What the kinds share is in calls.rs.
 
 mod arithmetic;
 mod bundles;
@@ -10,11 +10,14 @@ mod code;
 mod download;
 mod encodings;
 mod field;
+mod generator;
 mod library;
 mod plans;
 mod random;
+mod readings;
 mod rebuilds;
 mod solving;
+mod surveys;
 
 use random::Random;
 
@@ -45,7 +48,7 @@ impl std::fmt::Display for Count {
 pub type Outcome = Result<Vec<Count>, String>;
 
 /// Each kind has a generator of its own, so that a new kind changes no other's cases; so new ones go last.
-const KINDS: [fn(&mut Random) -> Outcome; 14] = [
+const KINDS: [fn(&mut Random) -> Outcome; 19] = [
     arithmetic::products,
     arithmetic::inverses,
     arithmetic::samples,
@@ -60,6 +63,11 @@ const KINDS: [fn(&mut Random) -> Outcome; 14] = [
     rebuilds::samples,
     rebuilds::recovered,
     rebuilds::rebuilds,
+    readings::samples,
+    readings::recovered,
+    readings::readings,
+    surveys::samples,
+    surveys::surveys,
 ];
 
 const SEED: u64 = 1;

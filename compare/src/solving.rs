@@ -1,6 +1,6 @@
-//! The lost column without the rebuild's own way: data are looked for by elimination whose encoded array has the
-//! given strips at the planned places. Data that stay free are taken at random, since every such array must have the
-//! same lost column.
+//! Data are looked for by elimination whose encoded array has given strips at given places. So the lost column is had
+//! without the rebuild's own way: data that stay free are taken at random, since every array with the strips at the
+//! planned places must have the same lost column.
 
 use crate::code::{self, Place, Profile};
 use crate::field::{inverse, product, sum};
@@ -19,7 +19,7 @@ pub fn lost_column(profile: &Profile, lost: usize, strips: &[Vec<u8>], random: &
 
 /// The stored strip of each of these places as a sum of multiples of the kA data strips: the multiples. All rules
 /// hold at each byte offset on its own, so data strip m is set to 1 at offset m alone, and one encoding gives all.
-fn multiples(profile: &Profile, places: &[Place]) -> Vec<Vec<u8>> {
+pub fn multiples(profile: &Profile, places: &[Place]) -> Vec<Vec<u8>> {
     let symbols = profile.k * profile.rows;
     let units = Profile { s: symbols, ..*profile };
     let mut data = vec![0; units.data_length()];
@@ -31,7 +31,7 @@ fn multiples(profile: &Profile, places: &[Place]) -> Vec<Vec<u8>> {
 }
 
 /// Data whose array has these strips at these places; nothing if no data have.
-fn data_with(profile: &Profile, places: &[Place], strips: &[Vec<u8>], random: &mut Random) -> Option<Vec<u8>> {
+pub fn data_with(profile: &Profile, places: &[Place], strips: &[Vec<u8>], random: &mut Random) -> Option<Vec<u8>> {
     let (symbols, s) = (profile.k * profile.rows, profile.s);
     let mut equations = multiples(profile, places);
     for (equation, strip) in equations.iter_mut().zip(strips) {
@@ -56,7 +56,7 @@ fn data_with(profile: &Profile, places: &[Place], strips: &[Vec<u8>], random: &m
 
 /// Elimination over the first `symbols` columns. Gives the symbol that each of the first equations is solved for; it
 /// has the multiple 1 there and 0 in all others. The equations past those have no multiples left.
-fn eliminate(equations: &mut [Vec<u8>], symbols: usize) -> Vec<usize> {
+pub fn eliminate(equations: &mut [Vec<u8>], symbols: usize) -> Vec<usize> {
     let mut solved = Vec::new();
     for symbol in 0..symbols {
         let next = solved.len();
