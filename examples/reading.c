@@ -6,18 +6,23 @@
 
 #include "whaupfield.h"
 
-enum { N = 4, K = 2, A = 2, S = 1, ALL = 6 };
+/* There are six sets of two of four nodes. */
+enum { N = 4, K = 2, A = 2, S = 1, SETS = 6 };
 
 static void read_two(unsigned t, const uint8_t *data)
 {
     const uint8_t nodes[K] = {0, 3};
     uint8_t array[N * A * S], columns[K * A * S], output[K * A * S] = {0};
 
-    whaupfield_encode(N, K, A, t, S, data, K * A * S, array, sizeof array);
+    uint64_t answer = whaupfield_encode(N, K, A, t, S, data, K * A * S, array, sizeof array);
+    if (WHAUPFIELD_NUMBER(answer) != 0) {
+        printf("t = %u: encode: refused %u\n", t, WHAUPFIELD_NUMBER(answer));
+        return;
+    }
     for (int q = 0; q < K; q++)
         memcpy(columns + q * A * S, array + nodes[q] * A * S, A * S);
 
-    uint64_t answer = whaupfield_read_back(N, K, A, t, S, nodes, K, columns, sizeof columns, output, sizeof output);
+    answer = whaupfield_read_back(N, K, A, t, S, nodes, sizeof nodes, columns, sizeof columns, output, sizeof output);
     if (WHAUPFIELD_NUMBER(answer) != 0)
         printf("t = %u: read back: refused %u\n", t, WHAUPFIELD_NUMBER(answer));
     else
@@ -27,8 +32,12 @@ static void read_two(unsigned t, const uint8_t *data)
 static void survey(unsigned t)
 {
     uint8_t set[K] = {0};
-    uint64_t answer = whaupfield_survey(N, K, A, t, S, 0, ALL, set, sizeof set);
+    uint64_t answer = whaupfield_survey(N, K, A, t, S, 0, SETS, set, sizeof set);
 
+    if (WHAUPFIELD_NUMBER(answer) != 0) {
+        printf("t = %u: survey: refused %u\n", t, WHAUPFIELD_NUMBER(answer));
+        return;
+    }
     if (WHAUPFIELD_OUTCOME(answer) == WHAUPFIELD_FAILING)
         printf("t = %u: survey: failing at position %llu, nodes %d and %d", t,
                (unsigned long long)WHAUPFIELD_POSITION(answer), set[0], set[1]);

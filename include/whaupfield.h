@@ -14,7 +14,7 @@
  *   6  the bundle's total length, its tags or its field lengths are not those of the wanted profile and node
  *   7  the content of its field 01 or 02 is not the wanted profile, node and scenario
  *   8  a strip's place is not the plan's             9  a strip's scenario is not the wanted one
- *  10  some two different data give equal columns on the named nodes: they cannot be read back from, whatever the columns
+ *  10  some two different data give equal columns on the named nodes, whatever the columns hold: other nodes may do
  * The first in this order that applies is the answer: a misplaced strip goes before a stale one, wherever they stand.
  * With 8 and 9 comes the index of the first such strip, from 0 in plan order; with the others 0.
  *
@@ -32,13 +32,13 @@
 #include <stddef.h>
 #include <stdint.h>
 
-#define WHAUPFIELD_NUMBER(answer) ((unsigned)((answer) & 0xFF))
-#define WHAUPFIELD_VALUE(answer) ((answer) >> 8)
+#define WHAUPFIELD_NUMBER(answer) ((unsigned)((uint64_t)(answer) & 0xFF))
+#define WHAUPFIELD_VALUE(answer) ((uint64_t)(answer) >> 8)
 
 /* The parts of a survey's value. With a refusal all three are 0. */
-#define WHAUPFIELD_OUTCOME(answer) ((unsigned)((answer) >> 8 & 3))
-#define WHAUPFIELD_POSITION(answer) ((answer) >> 10 & 0x3FFFFF)
-#define WHAUPFIELD_LOOKED(answer) ((answer) >> 32)
+#define WHAUPFIELD_OUTCOME(answer) ((unsigned)((uint64_t)(answer) >> 8 & 3))
+#define WHAUPFIELD_POSITION(answer) ((uint64_t)(answer) >> 10 & 0x3FFFFF)
+#define WHAUPFIELD_LOOKED(answer) ((uint64_t)(answer) >> 32)
 
 enum { WHAUPFIELD_FAILING = 1, WHAUPFIELD_DONE = 2, WHAUPFIELD_OPEN = 3 };
 
@@ -73,10 +73,11 @@ uint64_t whaupfield_rebuild(size_t n, size_t k, size_t a, size_t t, size_t s, si
                             const uint8_t *bundle, size_t bundle_length,
                             uint8_t *column, size_t column_length);
 
-/* Read back: writes the k*a*s bytes of data from the columns of k named nodes. nodes holds their k numbers, strictly
- * rising; columns their k*a*s bytes, the columns joined in the order of the list. Any bytes are the columns of exactly one
- * data, or the nodes are refused with 10; which of the two turns on the profile and the list alone. Value 0. Refused with
- * 1, 2, 3, 4, 5 or 10; a list of another length than k is 4. Other libraries call it decode. */
+/* Read back: writes the k*a*s bytes of data from the columns of k named nodes. nodes holds their k numbers, one
+ * byte each, strictly rising; columns their k*a*s bytes, the columns joined in the order of the list. If the nodes are not
+ * refused with 10, any k*a*s bytes are the columns of exactly one recording's data; whether they are refused depends on the
+ * profile and the list alone. Value 0. Refused with 1, 2, 3, 4, 5 or 10; a list of another length than k is 4. Other
+ * libraries call it decode. */
 uint64_t whaupfield_read_back(size_t n, size_t k, size_t a, size_t t, size_t s,
                               const uint8_t *nodes, size_t nodes_length,
                               const uint8_t *columns, size_t columns_length,
@@ -88,8 +89,9 @@ uint64_t whaupfield_read_back(size_t n, size_t k, size_t a, size_t t, size_t s,
  *                       node numbers are written to set
  *   WHAUPFIELD_DONE     none was found, and no set is left; set stays as it was
  *   WHAUPFIELD_OPEN     none was found, and sets are left: go on at start + WHAUPFIELD_LOOKED; set stays as it was
- * WHAUPFIELD_LOOKED is the number of sets looked at, the failing one counted. Neither s nor the data matter. set has k
- * bytes. start may be the number of sets: done, 0 looked at. Refused with 1, 2, 3, 4 or 5. */
+ * WHAUPFIELD_LOOKED is the number of sets looked at, the failing one counted. s must be accepted but changes
+ * nothing. set has k bytes. `most` may be more than are left: SIZE_MAX looks at all. start may be the number of sets: done,
+ * 0 looked at. Refused with 1, 2, 3, 4 or 5. */
 uint64_t whaupfield_survey(size_t n, size_t k, size_t a, size_t t, size_t s, size_t start, size_t most,
                            uint8_t *set, size_t set_length);
 

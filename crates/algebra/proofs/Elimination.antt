@@ -1,9 +1,10 @@
--- A matrix of m rows and w columns has a left inverse, or a vector other than zero that it takes to zero (`gauss`). One
--- kind of row step does all: to each row is added a multiple of one row. The lemmas hold of matrices that are given
--- only below m and w, so that a program that works in place can cite them.
+-- The elimination of a matrix of m rows and w columns, column by column: where each column has a pivot it makes the left
+-- inverse, and the first column without one gives a vector other than zero that the matrix takes to zero. One kind of row
+-- step does all: to each row is added a multiple of one row. The laws hold of matrices that are given only below m and w,
+-- so that a program that works in place can cite them.
 use mathlib.Core.Path.{_≡_, refl, sym, ap₂, _∙_}
-use mathlib.Core.Logic.{_≢_, _⊎_, inl, inr}
-use Prim.Native.Nat.{ℕ, zero, suc, _+_, _-_, _≤_, _<_}
+use mathlib.Core.Logic.{_≢_}
+use Prim.Native.Nat.{ℕ, suc, _≤_, _<_}
 use native.Mathlib.Omega.{arith}
 use native.Mathlib.Decide.{ℕ-discrete, decLt}
 use Rattle.algebra.specs.Field.{Field}
@@ -19,7 +20,7 @@ use Rattle.algebra.specs.Square.{
   Step,
   Reached,
   Reduced,
-  coefficient,
+  multiplier,
 }
 use Rattle.algebra.proofs.Field.{
   ring,
@@ -49,14 +50,12 @@ use Rattle.algebra.proofs.Square.{
   unit-at,
   unit-off,
   dot-pick,
-  Found,
-  find,
 }
 
 module _ (K : Field) where
   infixl 65 _⊕_
   infixl 70 _⊗_
-  open Field K using (carrier as F, 𝟘, 𝟙, add as _⊕_, mul as _⊗_, inv, eq?, mul-inv, one-ne-zero)
+  open Field K using (carrier as F, 𝟘, 𝟙, add as _⊕_, mul as _⊗_, inv, mul-inv, one-ne-zero)
 
   -- No step is taken yet; T is the unit matrix as far as it is given.
   pub start : (m w : ℕ) (M T : Matrix K) → ((i j : ℕ) → i < m → j < m → T i j ≡ unit K i j) → Reached K m w M M T
@@ -160,13 +159,6 @@ module _ (K : Field) where
         dot-add-right K w (M i) (unit K r) column ∙ ap₂ _⊕_ (dot-pick K w r (M i) l) (column-dot i k)
         ∙ add-self K (M i r)
 
-    -- So the matrix has a kernel.
-    stuck : Kernel K m w M
-    stuck = record { vector = vector; at = r; below = l; nonzero = nonzero; kills = kills-vector }
-      where
-        nonzero : unit K r r ⊕ column r ≢ 𝟘
-        nonzero = rw (unit-at K r, column-under r (omega arith), add-zero) one-ne-zero
-
     -- Any vector with these values is taken to zero: the column above r, 1 at r, 0 below.
     pub stuck-by : (v : ℕ → F) → ((j : ℕ) → j < r → v j ≡ M j r) → v r ≡ 𝟙 → ((j : ℕ) → r < j → j < w → v j ≡ 𝟘)
         → Solves K m w M (λ i. 𝟘) v
@@ -179,30 +171,20 @@ module _ (K : Field) where
         same j h (no d) (yes e) = rw e one ∙ sym (add-zero K 𝟙)
         same j h (no d) (no e) = under j (omega arith) h ∙ sym (add-zero K 𝟘)
 
-  -- What a matrix that was reached takes to zero, the first one does.
-  pub reached-kernel : (m w : ℕ) (M N T : Matrix K) → Reached K m w M N T → Kernel K m w N → Kernel K m w M
-  reached-kernel m w M N T R k = record {
-    vector = k .vector;
-    at = k .at;
-    below = k .below;
-    nonzero = k .nonzero;
-    kills = R .back (λ i. 𝟘) (k .vector) (λ i l. k .kills i l ∙ sym (dot-zeros K m (T i)));
-  }
-
   module _ (r : ℕ) (M : Matrix K) where
-    -- The coefficient of the pivot's own row.
-    pub coefficient-at : coefficient K r M r ≡ 𝟙 ⊕ inv (M r r)
-    unfolding coefficient
-    coefficient-at = pick-yes (ℕ-discrete r r) _ _ refl
+    -- The multiplier of the pivot's own row.
+    pub multiplier-at : multiplier K r M r ≡ 𝟙 ⊕ inv (M r r)
+    unfolding multiplier
+    multiplier-at = pick-yes (ℕ-discrete r r) _ _ refl
 
-    -- The coefficients of the other rows.
-    pub coefficient-off : (i : ℕ) → i ≢ r → coefficient K r M i ≡ M i r ⊗ inv (M r r)
-    unfolding coefficient
-    coefficient-off i d = pick-no (ℕ-discrete i r) _ _ d
+    -- The multipliers of the other rows.
+    pub multiplier-off : (i : ℕ) → i ≢ r → multiplier K r M i ≡ M i r ⊗ inv (M r r)
+    unfolding multiplier
+    multiplier-off i d = pick-no (ℕ-discrete i r) _ _ d
 
     -- A pivot's row is not lost.
-    pub kept : M r r ≢ 𝟘 → 𝟙 ⊕ coefficient K r M r ≢ 𝟘
-    kept n = rw (coefficient-at, add-self-left) (inv-ne-zero K (M r r) n)
+    pub kept : M r r ≢ 𝟘 → 𝟙 ⊕ multiplier K r M r ≢ 𝟘
+    kept n = rw (multiplier-at, add-self-left) (inv-ne-zero K (M r r) n)
 
   -- What the step makes of the pivot.
   expand : (a b : F) → a ⊕ (𝟙 ⊕ b) ⊗ a ≡ a ⊗ b
@@ -210,20 +192,20 @@ module _ (K : Field) where
 
   -- The pivot of column r is not zero: one step makes the column a unit column.
   module _ (r m w : ℕ) (M : Matrix K) (l : r < m) (t : r < w) (U : Reduced K r m M) (n : M r r ≢ 𝟘)
-      (N : Matrix K) (s : Step K m w r (coefficient K r M) M N) where
+      (N : Matrix K) (s : Step K m w r (multiplier K r M) M N) where
     -- A column that is done stays as it is.
     done : (i j : ℕ) → i < m → j < r → N i j ≡ M i j
     done i j k h = s i j k (omega arith) ∙ rw (U .off r j l h (omega arith), mul-zero, add-zero)
 
     -- The pivot becomes 1.
     pivot-one : N r r ≡ 𝟙
-    pivot-one = s r r l t ∙ rw (coefficient-at r M) (expand (M r r) (inv (M r r)) ∙ mul-inv (M r r) n)
+    pivot-one = s r r l t ∙ rw (multiplier-at r M) (expand (M r r) (inv (M r r)) ∙ mul-inv (M r r) n)
 
     -- The rest of its column becomes 0.
     pivot-off : (i : ℕ) → i < m → i ≢ r → N i r ≡ 𝟘
     pivot-off i k d =
         let whole : inv (M r r) ⊗ M r r ≡ 𝟙 = mul-comm K (inv (M r r)) (M r r) ∙ mul-inv (M r r) n in
-        s i r k t ∙ rw (coefficient-off r M i d, mul-assoc, whole, mul-one, add-self)
+        s i r k t ∙ rw (multiplier-off r M i d, mul-assoc, whole, mul-one, add-self)
 
     -- One more column is done, and those before it stay so.
     pub cleared : Reduced K (suc r) m N
@@ -257,75 +239,7 @@ module _ (K : Field) where
   pub lift-kept : (r p : ℕ) → r < p → 𝟙 ⊕ unit K r p ≢ 𝟘
   lift-kept r p h = rw (unit-off K r p (omega arith), add-zero) one-ne-zero
 
-  -- What elimination comes to.
-  abbrev pub Outcome : ℕ → ℕ → Matrix K → Type 0
-  Outcome m w M = Kernel K m w M ⊎ ((T : Matrix K) × Inverse K m w M T)
-
-  module _ (m w : ℕ) (M : Matrix K) where
-    -- The matrix after a step.
-    added : ℕ → (ℕ → F) → Matrix K → Matrix K
-    added p c N i j = N i j ⊕ c i ⊗ N p j
-
-    -- It comes from N by that step, however many columns are given.
-    stepped : (n p : ℕ) (c : ℕ → F) (N : Matrix K) → Step K m n p c N (added p c N)
-    unfolding added
-    stepped n p c N i j k h = refl
-
-    -- From every state with r columns done the elimination comes to an outcome.
-    abbrev Solved : ℕ → Type 0
-    Solved r = r ≤ m → (N T : Matrix K) → Reached K m w M N T → Reduced K r m N → Outcome m w M
-
-    -- The state after a step.
-    reached-added : (p : ℕ) (c : ℕ → F) (N T : Matrix K) → p < m → 𝟙 ⊕ c p ≢ 𝟘
-        → Reached K m w M N T → Reached K m w M (added p c N) (added p c T)
-    reached-added p c N T l d =
-        reached-step m w p c M N T (added p c N) (added p c T) l d (stepped w p c N) (stepped m p c T)
-
-    -- With a pivot, one step leads to the next column.
-    pivoted : (r : ℕ) → r < m → r < w → Solved (suc r)
-        → (N T : Matrix K) → Reached K m w M N T → Reduced K r m N → N r r ≢ 𝟘 → Outcome m w M
-    pivoted r l t next N T R U d =
-        let c : ℕ → F = coefficient K r N in
-        next (omega arith) (added r c N) (added r c T) (reached-added r c N T l (kept r N d) R)
-        (cleared r m w N l t U d (added r c N) (stepped w r c N))
-
-    -- Without one, a lower row lends its entry; where none has any, the matrix has a kernel.
-    next-column : (r : ℕ) → r < w → Solved (suc r) → Solved r
-    next-column r t next g N T R U = go (find K (m - r) (λ i. N (i + r) r))
-      where
-        below : ((i : ℕ) → i < m - r → N (i + r) r ≡ 𝟘) → (i : ℕ) → i < m → r ≤ i → N i r ≡ 𝟘
-        below h i k q = let s : i - r + r ≡ i = omega arith in rw s at (h (i - r) (omega arith))
-
-        lifted : (q : ℕ) → r < q → q < m → N r r ≡ 𝟘 → N q r ≢ 𝟘 → Outcome m w M
-        lifted q h l z d =
-            let N′ : Matrix K = added q (unit K r) N in
-            let s : Step K m w q (unit K r) N N′ = stepped w q (unit K r) N in
-            pivoted r (omega arith) t next N′ (added q (unit K r) T)
-            (reached-added q (unit K r) N T l (lift-kept r q h) R)
-            (lift-reduced r m w q N N′ h l t s U) (lift-pivot r m w q N N′ h l t s z d)
-
-        go : Found K (m - r) (λ i. N (i + r) r) → Outcome m w M
-        go (inr h) = inl (reached-kernel m w M N T R (stuck r m w N t U (below h)))
-        go (inl (p, b, d)) = lend (eq? (N r r) 𝟘) (ℕ-discrete p 0)
-          where
-            lend : Dec (N r r ≡ 𝟘) → Dec (p ≡ 0) → Outcome m w M
-            lend (no n) e = pivoted r (omega arith) t next N T R U n
-            lend (yes z) (yes e) = let s : p + r ≡ r = omega arith in absurd (d (rw s z))
-            lend (yes z) (no e) = lifted (p + r) (omega arith) (omega arith) z d
-
-    -- Column by column, with n still to do.
-    eliminate : (n r : ℕ) → n + r ≡ w → Solved r
-    eliminate zero r e g N T R U =
-        let q : r ≡ w = omega arith in inr (T, finish m w M N T (omega arith) R (rw q at U))
-    eliminate (suc n) r e g N T R U = next-column r (omega arith) (eliminate n (suc r) (omega arith)) g N T R U
-
-    -- A matrix has a left inverse, or a vector other than zero that it takes to zero.
-    pub gauss : Outcome m w M
-    gauss =
-        eliminate w 0 (omega arith) (omega arith) M (unit K) (start m w M (unit K) (λ i j h k. refl))
-        record { one = λ j h. absurd (omega arith); off = λ i j k h d. absurd (omega arith) }
-
-  -- It has not both.
+  -- A matrix with a left inverse takes no vector other than zero to zero.
   pub no-kernel : {m w : ℕ} {M T : Matrix K} → Inverse K m w M T → Kernel K m w M → ⊥
   no-kernel {m} {w} {M} {T} I k =
       k .nonzero (I .unique (λ i. 𝟘) (k .vector) (k .kills) (k .at) (k .below) ∙ dot-zeros K m (T (k .at)))

@@ -1,8 +1,7 @@
--- Laws of a row of coefficients applied to a vector, and the search for an entry that is not zero.
+-- Laws of a row of coefficients applied to a vector.
 use mathlib.Core.Path.{_≡_, refl, ap, ap₂, _∙_}
-use mathlib.Core.Logic.{_≢_, _⊎_, inl, inr}
-use Prim.Native.Nat.{ℕ, zero, suc, _<_}
-use native.Mathlib.Omega.{arith}
+use mathlib.Core.Logic.{_≢_}
+use Prim.Native.Nat.{ℕ, _<_}
 use native.Mathlib.Decide.{ℕ-discrete}
 use Rattle.algebra.specs.Field.{Field}
 use Rattle.algebra.specs.Sum.{sum}
@@ -14,7 +13,7 @@ use Rattle.algebra.proofs.Sum.{sum-ext, sum-zero, sum-add, sum-scale, s
 module _ (K : Field) where
   infixl 65 _⊕_
   infixl 70 _⊗_
-  open Field K using (carrier as F, 𝟘, 𝟙, add as _⊕_, mul as _⊗_, eq?)
+  open Field K using (carrier as F, 𝟘, 𝟙, add as _⊕_, mul as _⊗_)
 
   -- Equal rows and vectors have equal products.
   pub dot-ext : (m : ℕ) {r s v w : ℕ → F} → ((j : ℕ) → j < m → r j ≡ s j) → ((j : ℕ) → j < m → v j ≡ w j)
@@ -65,21 +64,3 @@ module _ (K : Field) where
   -- The unit vector takes the row's entry.
   pub dot-pick : (m p : ℕ) (r : ℕ → F) → p < m → dot K m r (unit K p) ≡ r p
   dot-pick m p r l = dot-comm m r (unit K p) ∙ dot-unit m p (unit K p) r l (unit-at p) (λ j k n. unit-off p j n)
-
-  -- One of the first m values of f is not zero, or all are zero.
-  abbrev pub Found : ℕ → (ℕ → F) → Type 0
-  Found m f = ((p : ℕ) × (p < m) × (f p ≢ 𝟘)) ⊎ ((i : ℕ) → i < m → f i ≡ 𝟘)
-
-  -- The search for a value that is not zero.
-  pub find : (m : ℕ) (f : ℕ → F) → Found m f
-  find zero f = inr (λ i h. absurd (omega arith))
-  find (suc n) f = go (find n f) (eq? (f n) 𝟘)
-    where
-      go : Found n f → Dec (f n ≡ 𝟘) → Found (suc n) f
-      go (inl (p, b, c)) d = inl (p, omega arith, c)
-      go (inr h) (no d) = inl (n, omega arith, d)
-      go (inr h) (yes e) = inr (λ i k. last i k (ℕ-discrete i n))
-        where
-          last : (i : ℕ) → i < suc n → Dec (i ≡ n) → f i ≡ 𝟘
-          last i k (yes s) = rw s e
-          last i k (no s) = h i (omega arith)

@@ -10,7 +10,7 @@
 -- Step K m w p c M N  : N comes from M by adding c i times row p to each row i
 -- Reached K m w M N T : N and T come from M and the unit matrix of m rows by the same row steps
 -- Reduced K r m M     : the first r columns of M, of m ≥ r rows, are those of the unit matrix
--- coefficient K r M   : the multiples of row r by which a step makes column r that of the unit matrix
+-- multiplier K r M   : the multiples of row r by which a step makes column r that of the unit matrix
 use mathlib.Core.Path.{_≡_}
 use mathlib.Core.Logic.{_≢_}
 use Prim.Native.Nat.{ℕ, _<_}
@@ -72,5 +72,5 @@ module _ (K : Field) where
     pub off : (i j : ℕ) → i < m → j < r → i ≢ j → M i j ≡ 𝟘
 
   -- What is added to row i, as a multiple of row r, so that column r has 1 in row r and 0 elsewhere.
-  unfoldable pub coefficient : ℕ → Matrix → ℕ → F
-  coefficient r M i = pick (ℕ-discrete i r) (𝟙 ⊕ inv (M r r)) (M i r ⊗ inv (M r r))
+  unfoldable pub multiplier : ℕ → Matrix → ℕ → F
+  multiplier r M i = pick (ℕ-discrete i r) (𝟙 ⊕ inv (M r r)) (M i r ⊗ inv (M r r))

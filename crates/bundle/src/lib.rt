@@ -5,7 +5,7 @@ ghost use lib.ListN.{length};
 ghost use Rattle.lists.specs.Put.{Wrote};
 ghost use Rattle.fields.specs.Fields.{openingLength, fieldOf};
 ghost use Rattle.document.specs.Profile.{Accepted};
-ghost use Rattle.document.specs.Places.{place, Within};
+ghost use Rattle.document.specs.Places.{Within};
 ghost use Rattle.document.specs.Plan.{planned, priceOf, maxPlaces};
 ghost use Rattle.document.specs.Bundle.{recordingBytes, recordingLength, profileContent, profileContentLength};
 ghost use Rattle.document.specs.Bundle.{lostContent, lostContentLength, stripContent, stripOf, headLength};

@@ -1,15 +1,14 @@
 -- The coefficients of a place: the weights at its node in its own row, and those at its partner's node, times the factor,
 -- in the partner's row.
-use mathlib.Core.Path.{_≡_, refl, sym, ap, ap₂, _∙_}
+use mathlib.Core.Path.{_≡_, sym, ap, _∙_}
 use mathlib.Core.Logic.{_≢_}
 use mathlib.Core.List.{List}
-use Prim.Native.Nat.{ℕ, zero, suc, _+_, _*_, _/_, _%_, _≤_, _<_}
-use native.Mathlib.Nat.{mod-lt, div-add-mod', mul-comm}
+use Prim.Native.Nat.{ℕ, _+_, _*_, _/_, _%_, _≤_, _<_}
+use native.Mathlib.Nat.{mod-lt, div-add-mod'}
 use native.Mathlib.Decide.{ℕ-discrete, decLt}
 use native.Mathlib.Omega.{arith}
-use lib.ListN.{length, getD, replicate, length-replicate}
+use lib.ListN.{length, getD, replicate, length-replicate, getD-replicate}
 use lib.Seq.{ext-getD}
-use Rattle.lists.specs.Listed.{listed}
 use Rattle.lists.proofs.Listed.{listed-length, listed-at}
 use Rattle.lists.proofs.Patched.{patched-length, patched-in, patched-out}
 use Rattle.gf256.specs.Field.{_⊕_, _⊗_}
@@ -18,16 +17,14 @@ use Rattle.algebra.specs.Pick.{pick}
 use Rattle.algebra.specs.Weight.{weight}
 use Rattle.strips.specs.Strips.{addedScaled}
 use Rattle.document.specs.declared.Profile.{Profile}
-use Rattle.document.specs.declared.Place.{Place}
-use Rattle.document.specs.Bytes.{bytes, Byte, byte, number}
-use Rattle.document.specs.Profile.{Accepted}
-use Rattle.document.specs.Places.{place, Within}
+use Rattle.document.specs.Bytes.{bytes, byte, number}
+use Rattle.document.specs.Places.{place}
 use Rattle.document.specs.Encoding.{factorAt}
 use Rattle.document.specs.Reading.{coefficientAt, dataPlace}
 use Rattle.document.proofs.Bytes.{number-lt, number-zero, number-add, number-mul}
-use Rattle.document.proofs.Bounds.{room, A>0, square-bound}
+use Rattle.document.proofs.Bounds.{room}
 use Rattle.document.proofs.Coefficients.{coefficient-two}
-use Rattle.coefficients.specs.Data.{dataWeights}
+use Rattle.coefficients.specs.Data.{dataWeights, coefficientLine}
 use Rattle.coefficients.proofs.Data.{data-weights-length, data-weight}
 
 module _ (k : ℕ) where
@@ -68,12 +65,6 @@ module _ (k : ℕ) where
             patched-out (row * k) (length (dataWeights k j)) _ x (r * k + q) (apart d)
             ∙ sym (rw (number-zero, mul-zero, add-zero))
 
--- an entry of a list of zeros
-zeros-at : (n e : ℕ) → _≡_ {A = ℕ} (getD (replicate n 0) e 0) 0
-zeros-at zero e = refl
-zeros-at (suc n) zero = refl
-zeros-at (suc n) (suc e) = zeros-at n e
-
 module _ (p : Profile) (j i : ℕ) where
   open Profile p using (k, a as A)
 
@@ -88,7 +79,8 @@ module _ (p : Profile) (j i : ℕ) where
 
   pub line-made : 0 < k
       → addedScaled (number (factorAt p i l)) (l * k) (dataWeights k other) first
-      ≡ listed 80 (λ e. number (coefficientAt p (place j i) (dataPlace p e)))
+      ≡ coefficientLine p (place j i)
+  unfolding coefficientLine
   line-made k>0 =
       ext-getD 0 _ _ (size ∙ sym (listed-length 80 _))
       (λ e h. let b : e < 80 = omega (arith, h, size) in at e b ∙ sym (listed-at 80 _ e 0 b))
@@ -109,7 +101,7 @@ module _ (p : Profile) (j i : ℕ) where
           weights-added k f l other first r q b (omega (arith, once))
           ∙ ap (λ (u : ℕ). u ⊕ (f ⊗ weightIn k l other r q))
           (weights-added k 1 i j (replicate 80 0) r q b (omega (arith, length-replicate {A = ℕ} 80 0))
-          ∙ rw (zeros-at 80 (r * k + q), zero-add) (one-mul _ (number-lt _)))
+          ∙ rw (getD-replicate {A = ℕ} 80 (r * k + q) 0 0 h, zero-add) (one-mul _ (number-lt _)))
           ∙ sym
           (ap number (coefficient-two p j i q r) ∙ number-add _ _
           ∙ ap (λ (u : ℕ). weightIn k i j r q ⊕ u) (number-mul _ _))

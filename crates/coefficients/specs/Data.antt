@@ -4,13 +4,17 @@
 -- dataDenominators k : the denominators of their weights
 -- dataWeights k j    : the weight of each data node at node j
 -- weightTable p      : the weights at all nodes, node after node
+-- coefficientLine p q : the coefficients of all data symbols, row by row, in what is stored at the place q, in a line of 80;
+--                      past the data symbols they are 0
 use mathlib.Core.List.{List}
 use Prim.Native.Nat.{ℕ, _*_, _/_, _%_}
 use lib.ListN.{getD}
 use Rattle.lists.specs.Listed.{listed}
 use Rattle.algebra.specs.Weight.{weight}
 use Rattle.document.specs.declared.Profile.{Profile}
+use Rattle.document.specs.declared.Place.{Place}
 use Rattle.document.specs.Bytes.{bytes, byte, number}
+use Rattle.document.specs.Reading.{coefficientAt, dataPlace}
 use Rattle.coefficients.specs.Weights.{denominatorsOf}
 
 unfoldable pub dataNodes : ℕ → List ℕ
@@ -24,3 +28,6 @@ dataWeights k j = listed k (λ q. number (weight bytes k byte q (byte j)))
 
 unfoldable pub weightTable : Profile → List ℕ
 weightTable p = listed (p .n * p .k) (λ e. getD (dataWeights (p .k) (e / p .k)) (e % p .k) 0)
+
+unfoldable pub coefficientLine : Profile → Place → List ℕ
+coefficientLine p q = listed 80 (λ e. number (coefficientAt p q (dataPlace p e)))

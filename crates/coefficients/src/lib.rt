@@ -6,13 +6,11 @@ ghost use Prim.Native.Nat.{_*_, _≤_, _<_};
 ghost use lib.ListN.{length};
 ghost use Rattle.lists.specs.Listed.{listed};
 ghost use Rattle.strips.specs.Strips.{addedScaled};
-ghost use Rattle.document.specs.Bytes.{number};
 ghost use Rattle.document.specs.Profile.{Accepted};
 ghost use Rattle.document.specs.Places.{Within};
-ghost use Rattle.document.specs.Reading.{coefficientAt, dataPlace};
 ghost use Rattle.coefficients.specs.Weights.{Different, Outside, weightsOf};
 ghost use Rattle.coefficients.specs.Weights.{differencesOf, denominatorOf, denominatorsOf, Divisors, weightsFrom};
-ghost use Rattle.coefficients.specs.Data.{dataDenominators, dataWeights, weightTable};
+ghost use Rattle.coefficients.specs.Data.{dataDenominators, dataWeights, weightTable, coefficientLine};
 use document::Place;
 use document::Profile;
 
@@ -190,7 +188,7 @@ fn add_weights(c: &mut [u8], p: Profile, table: &[u8], row: usize, j: usize, f: 
 // those at its partner's node, times the factor, in the partner's row. Past the data symbols they are 0.
 pub fn line(p: Profile, table: &[u8], q: Place) -> [u8; 80]
     requires { ⌜ Accepted p × Within p q × (now table ≡ weightTable p) ⌝ }
-    ensures { λ r. ⌜ r ≡ listed 80 (λ e. number (coefficientAt p q (dataPlace p e))) ⌝ }
+    ensures { λ r. ⌜ r ≡ coefficientLine p q ⌝ }
 {
     let row = q.row;
     let r = p.partner(q);

@@ -72,7 +72,7 @@ use Rattle.document.proofs.Decides.{
 }
 use Rattle.document.proofs.Accepts.{decides-shape, decides-constant, decides-strip}
 use Rattle.document.proofs.Tried.{tried-holds, tried-not, tried-map}
-use Rattle.document.proofs.Lists.{decides-list-accepted, decides-ambiguous}
+use Rattle.document.proofs.NodeLists.{decides-list-accepted, decides-ambiguous}
 use Rattle.document.proofs.Surveys.{by-result}
 use Rattle.demands.specs.Refusals.{
   Sentence,

@@ -17,7 +17,7 @@ use Rattle.document.specs.Profile.{Accepted, profileOf}
 use Rattle.document.specs.Reading.{TwoData, ambiguous, dataFrom, readTests, readOf}
 use Rattle.document.proofs.Decides.{decides-eq, decides-both, decides-false}
 use Rattle.document.proofs.Tried.{tried-map}
-use Rattle.document.proofs.Lists.{decides-list-accepted, decides-ambiguous}
+use Rattle.document.proofs.NodeLists.{decides-list-accepted, decides-ambiguous}
 use Rattle.document.proofs.Reading.{read-data, read-columns, read-only}
 use Rattle.demands.specs.Refusals.{here, later, RefusesExactly, readSentences}
 use Rattle.demands.specs.Reading.{InDueForm, OnlyData, Demand2Reading}

@@ -29,7 +29,6 @@ use Rattle.document.proofs.Surveys.{
   first-early,
   first-late,
   decides-fails,
-  looked-min,
   failingAt,
   result-failing,
   result-done,
@@ -90,16 +89,16 @@ module _ (p : Profile) (acc : Accepted p) (start most : ℕ) (x : List ℕ) (wit
   result-tells =
       by-result p start most x (Tells p start most x)
       (λ h.
-      let below : found < sets n k = omega (arith, looked-min p start most) in
+      let below : found < sets n k = omega arith in
       failing (is-first .low) below (decides-fails p acc found below .0 (is-first .holds h))
       (none-before found (omega arith) (omega arith)) (omega (arith, is-first .low))
-      (omega (arith, is-first .low, looked-min p start most)))
-      (λ h e. done (none-before (sets n k) (omega arith) (omega arith)) e (omega (arith, looked-min p start most)))
+      (omega (arith, is-first .low)))
+      (λ h e. done (none-before (sets n k) (omega arith) (omega arith)) e (omega arith))
       (λ h e.
-      let all : looked ≡ most = omega (arith, looked-min p start most) in
+      let all : looked ≡ most = omega arith in
       subst (λ (m : ℕ). Tells p start most x (Open m, x)) (sym all)
-      (opened (none-before (start + most) (omega (arith, looked-min p start most)) (omega arith))
-      (omega (arith, looked-min p start most))))
+      (opened (none-before (start + most) (omega arith) (omega arith))
+      (omega arith)))
 
 -- ---- a survey is refused, whatever the number of sets to look at, or it is allowed
 record Allowed (p : Numbers) (start : ℕ) (x : List ℕ) : Type 0 where
@@ -141,7 +140,7 @@ refused-or-allowed p start x = go (first-or-none (demand-1-survey p start 0 x .d
             (λ n. unrefused-later p _ nowhere OutOfRange (here (omega arith)))
 
 -- ---- the demands
--- A survey that is not refused tells the truth.
+-- A survey that is not refused says what holds of the sets.
 survey-tells : SurveyTells
 unfolding surveyAnswer
 survey-tells p start most x e = go (refused-or-allowed p start x)
@@ -213,7 +212,7 @@ module _ (p : Profile) (start most more : ℕ) (x : List ℕ) (within : start �
       → resultOf p start (most + more) x ≡ failingAt p start (foundFrom p start most)
   unfolding foundFrom
   join-failing h =
-      let more-looked : first ≤ both = omega (arith, looked-min p start most, looked-min p start (most + more)) in
+      let more-looked : first ≤ both = omega arith in
       let e : both ≡ first + (both - first) = omega arith in
       let same : foundFrom p start (most + more) ≡ foundFrom p start most =
       ap (firstIn (failsAt p) start) e ∙ first-early (failsAt p) start first (both - first) h in
@@ -224,7 +223,7 @@ module _ (p : Profile) (start most more : ℕ) (x : List ℕ) (within : start �
       → resultOf p start (most + more) x ≡ (Done (lookedAt p start most), x)
   unfolding foundFrom
   join-done h e =
-      let same : both ≡ first = omega (arith, looked-min p start most, looked-min p start (most + more)) in
+      let same : both ≡ first = omega arith in
       let found : foundFrom p start (most + more) ≡ foundFrom p start most = ap (firstIn (failsAt p) start) same in
       result-done p start (most + more) x (omega arith) (omega arith) ∙ cc
 
@@ -249,10 +248,10 @@ module _ (p : Profile) (start most more : ℕ) (x : List ℕ) (within : start �
       result-open p start (most + more) x (omega (arith, same, size)) (λ d. e (omega (arith, size))) ∙ cc)
     where
       all : first ≡ most
-      all = omega (arith, looked-min p start most)
+      all = omega arith
 
       size : both ≡ most + second
-      size = omega (arith, looked-min p start (most + more), looked-min p (start + most) more)
+      size = omega arith
 
       same : foundFrom p start (most + more) ≡ foundFrom p (start + most) more
       same =
@@ -274,7 +273,7 @@ surveys-join p start most more x = go (refused-or-allowed p start x)
         (join-done (profileOf p) start most more x (A .within))
         (λ h e.
         let left : start + most < sets (p .n) (p .k) =
-        omega (arith, A .within, looked-min (profileOf p) start most) in
+        omega (arith, A .within) in
         let B : Allowed p (start + most) x =
         record { profile = A .profile; within = omega arith; room = A .room } in
         rw (allowed-result p (start + most) more x B)

@@ -3,7 +3,7 @@
 --
 -- InDueForm p nodes x y  : the request is in due form: profile, list and lengths
 -- OnlyData p nodes x d   : d are data whose array has the columns x on the named nodes, and no other data have them
--- Demand2Read p nodes x y : what demand 2 says of one call, for the columns x and the buffer y
+-- ReadsOnlyData p nodes x y : what demand 2 says of one call, for the columns x and the buffer y
 -- Demand2Reading         : for all numbers, lists and bytes. Shown in proofs/Demand2Reading.antt: demand-2-reading
 --
 -- The words it uses, from document/specs/Reading.antt and, the last, ksets/specs/Sets.antt:
@@ -36,7 +36,7 @@ pub record OnlyData (p : Profile) (nodes x d : List ℕ) : Type 0 where
   pub columns : joinedColumns p nodes (encoded p d) ≡ x
   pub only : (c : List ℕ) → Data p c → joinedColumns p nodes (encoded p c) ≡ x → c ≡ d
 
-pub record Demand2Read (p : Numbers) (nodes x y : List ℕ) : Type 0 where
+pub record ReadsOnlyData (p : Numbers) (nodes x y : List ℕ) : Type 0 where
   -- 'returns the only data whose array has those columns'; the value that comes with the answer 0 is 0
   pub returns : answerNumber (readOf p nodes x y .0) ≡ 0
       → (answerValue (readOf p nodes x y .0) ≡ 0) × OnlyData (profileOf p) nodes x (readOf p nodes x y .1)
@@ -51,4 +51,4 @@ pub record Demand2Read (p : Numbers) (nodes x y : List ℕ) : Type 0 where
 -- The columns that are lent are bytes.
 abbrev pub Demand2Reading : Type 0
 Demand2Reading =
-    (p : Numbers) (nodes x y : List ℕ) → ((e : ℕ) → e < length x → getD x e 0 < 256) → Demand2Read p nodes x y
+    (p : Numbers) (nodes x y : List ℕ) → ((e : ℕ) → e < length x → getD x e 0 < 256) → ReadsOnlyData p nodes x y

@@ -30,8 +30,9 @@
 -- The statements here and in the other files are about definitions. An entry point's promise, without any `requires`, is
 -- that its answer and what it leaves in the buffers lent for writing are its definition's: `encode` is encodeOf, `plan`
 -- planOf, `write_bundle` writeOf, `rebuild` rebuildOf, `read_back` readOf, `survey` surveyOf, the small program programOf,
--- and an exported function is the same with its answer as one number. That every entry point answers: each function of the store is proved to end without a
--- fault.
+-- and an exported function is the same with its answer as one number.
+--
+-- 'every entry point answers': each function of the store is proved to end without a fault.
 use mathlib.Core.Path.{_≡_}
 use mathlib.Core.Logic.{_↔_, _≢_, _⊎_}
 use mathlib.Core.List.{List, [], _∷_, _++_, map}

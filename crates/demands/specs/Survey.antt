@@ -4,7 +4,7 @@
 -- NoneFails p from to            : no set from the position `from` on and before `to` fails
 -- Tells p start most x outcome   : what the outcome of a survey says, by its three cases
 -- joinedOutcome first second     : the outcome of two surveys together, where the second goes on where the first stopped
--- SurveyTells                    : a survey that is not refused tells the truth
+-- SurveyTells                    : a survey that is not refused says what holds of the sets
 -- TestOfFailing                  : the survey's test of a set is true exactly if the set fails
 -- FailsInReading                 : a set fails exactly if readings from it are refused with 10
 -- AllSets n k                    : the positions below the number of sets give the sets of k nodes, each once, in
@@ -24,8 +24,7 @@
 use mathlib.Core.Path.{_≡_}
 use mathlib.Core.Logic.{_↔_}
 use mathlib.Core.List.{List}
-use Prim.Native.Nat.{ℕ, _+_, _*_, _≤_, _<_}
-use lib.ListN.{length}
+use Prim.Native.Nat.{ℕ, _+_, _≤_, _<_}
 use Rattle.ksets.specs.Sets.{sets, setAt, rankOf, Rising, Smaller, nextOf}
 use Rattle.document.specs.declared.Numbers.{Numbers}
 use Rattle.document.specs.declared.Profile.{Profile}
@@ -79,7 +78,7 @@ FailsInReading =
 -- 'the sets of k nodes in lexicographic order, starting at a given position (0 is the first)'
 pub record AllSets (n k : ℕ) : Type 0 where
   pub rises : (pos : ℕ) → pos < sets n k → Rising n k (setAt 0 n k pos)
-  pub ordered : (pos qos : ℕ) → pos < qos → qos < sets n k → Smaller (setAt 0 n k pos) (setAt 0 n k qos)
+  pub ordered : (pos late : ℕ) → pos < late → late < sets n k → Smaller (setAt 0 n k pos) (setAt 0 n k late)
   pub ranked : (pos : ℕ) → pos < sets n k → rankOf 0 n (setAt 0 n k pos) ≡ pos
   pub every : (nodes : List ℕ) → Rising n k nodes
       → (rankOf 0 n nodes < sets n k) × (setAt 0 n k (rankOf 0 n nodes) ≡ nodes)

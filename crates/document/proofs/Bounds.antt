@@ -14,7 +14,7 @@ use Rattle.document.specs.Places.{place, partnerOf, Within}
 pub room : (m c w : ℕ) → m < c → m * w + w ≤ c * w
 room m c w h = rw suc-mul at (mul-le-mul-right w h)
 
--- a node in the square for each row of parity: (24 - A)A is largest for four rows
+-- k ≤ 24 - A, and (24 - A)A is 44, 63 and 80 for two, three and four rows
 product-bound : (k A : ℕ) → k + A ≤ 24 → A ≤ 4 → k * A ≤ 80
 product-bound k A h l = go (ℕ-discrete A 4) (ℕ-discrete A 3)
   where

@@ -14,7 +14,7 @@ use Rattle.lists.proofs.Slice.{slice-at, slice-listed}
 use Rattle.algebra.specs.Field.{Field}
 use Rattle.algebra.specs.Polynomial.{Distinct}
 use Rattle.algebra.specs.RowCode.{Choice}
-use Rattle.algebra.specs.Coupling.{Array, stored, factor}
+use Rattle.algebra.specs.Coupling.{Array, stored}
 use Rattle.algebra.specs.Encoding.{symbols, encode, Code, Encoded}
 use Rattle.algebra.specs.Rebuild.{rebuiltAt, Planned, own, chosen, partner}
 use Rattle.algebra.proofs.Field.{add-zero, zero-mul, one-mul}
@@ -26,7 +26,7 @@ use Rattle.document.specs.declared.Place.{Place}
 use Rattle.document.specs.Profile.{Accepted}
 use Rattle.document.specs.Places.{place, Within}
 use Rattle.document.specs.Bytes.{bytes, Byte, byte, number}
-use Rattle.document.specs.Encoding.{start, byteAt, baseAt, constantOf, coupledAt, laidOut, columnOf, encoded}
+use Rattle.document.specs.Encoding.{start, byteAt, baseAt, constantOf, factorAt, coupledAt, laidOut, columnOf, encoded}
 use Rattle.document.specs.Bundle.{stripFieldLength, stripOf, stripFieldStart, stripIn}
 use Rattle.document.specs.Rebuild.{firstStrip}
 use Rattle.document.proofs.Bytes.{number-byte, number-zero, number-one, points-distinct}
@@ -51,13 +51,9 @@ array x b i j = x b (place j i)
 module _ (p : Profile) where
   open Profile p using (n, k, a as A, t, s as S)
 
-  -- document 01's factors
-  abbrev θ : ℕ → ℕ → Byte
-  θ = factor bytes (constantOf p)
-
   -- document 01's three cases are the algebra's one
   pub coupled-stored : (a : Place → Byte) (i j : ℕ)
-      → coupledAt p a (place j i) ≡ stored bytes A θ (λ i j. a (place j i)) i j
+      → coupledAt p a (place j i) ≡ stored bytes A (factorAt p) (λ i j. a (place j i)) i j
   unfolding stored
   coupled-stored a i j = go (ℕ-discrete i (j % A)) (decLt i (j % A))
     where
@@ -67,10 +63,10 @@ module _ (p : Profile) where
       v : Byte
       v = a (place (j / A * A + i) (j % A))
 
-      with-factor : (c : Byte) → θ i (j % A) ≡ c → u ⊕ c ⊗ v ≡ u ⊕ θ i (j % A) ⊗ v
+      with-factor : (c : Byte) → factorAt p i (j % A) ≡ c → u ⊕ c ⊗ v ≡ u ⊕ factorAt p i (j % A) ⊗ v
       with-factor c e = ap (λ (z : Byte). u ⊕ z ⊗ v) (sym e)
 
-      go : Dec (i ≡ j % A) → Dec (i < j % A) → coupledAt p a (place j i) ≡ u ⊕ θ i (j % A) ⊗ v
+      go : Dec (i ≡ j % A) → Dec (i < j % A) → coupledAt p a (place j i) ≡ u ⊕ factorAt p i (j % A) ⊗ v
       go (yes e) l =
           coupled-diagonal p a j i e
           ∙ sym (ap (λ (z : Byte). u ⊕ z) (zero-mul bytes v) ∙ add-zero bytes u)
@@ -86,7 +82,7 @@ module _ (p : Profile) where
   module _ (f : ℕ) (s : ℕ → ℕ) where
     -- the column of f rebuilt from x, where s 0 .. s (k-1) are the nodes chosen outside f's group
     abbrev pub rebuilt : (ℕ → Place → Byte) → List ℕ
-    rebuilt x = columnOf p (λ b q. rebuiltAt bytes A k byte θ f s (array x b) (q .row .0)) f
+    rebuilt x = columnOf p (λ b q. rebuiltAt bytes A k byte (factorAt p) f s (array x b) (q .row .0)) f
 
     -- x and y have the same strips at the planned places
     abbrev pub Alike : (ℕ → Place → Byte) → (ℕ → Place → Byte) → Type 0
@@ -125,7 +121,7 @@ module _ (p : Profile) where
 
     -- ---- encoded arrays
     pub encoded-at : (d : List ℕ) (b : ℕ) → b < S → (i j : ℕ) → i < A → j < n
-        → byteAt p (encoded p d) b (place j i) ≡ stored bytes A θ (array (baseAt p d) b) i j
+        → byteAt p (encoded p d) b (place j i) ≡ stored bytes A (factorAt p) (array (baseAt p d) b) i j
     unfolding encoded
     encoded-at d b l i j r h =
         laid-byte p n (λ b. coupledAt p (baseAt p d b)) b j i l h r ∙ coupled-stored (baseAt p d b) i j

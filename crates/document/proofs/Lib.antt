@@ -20,5 +20,5 @@ pub mod SquareSteps
 pub mod Squares
 pub mod Coefficients
 pub mod Reading
-pub mod Lists
+pub mod NodeLists
 pub mod Surveys

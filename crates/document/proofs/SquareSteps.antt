@@ -19,15 +19,15 @@ use borrow.Author.Tests.{eq-eqb, ne-eqb}
 use Rattle.lists.proofs.Listed.{listed-length, listed-at}
 use Rattle.gf256.specs.Field.{_⊕_, _⊗_, inverse}
 use Rattle.gf256.proofs.Ring.{add-lt, mul-lt, inverse-lt}
-use Rattle.algebra.specs.Square.{unit, Step, coefficient}
+use Rattle.algebra.specs.Square.{unit, Step, multiplier}
 use Rattle.algebra.proofs.Square.{unit-at, unit-off}
-use Rattle.algebra.proofs.Elimination.{coefficient-at, coefficient-off}
+use Rattle.algebra.proofs.Elimination.{multiplier-at, multiplier-off}
 use Rattle.strips.specs.Strips.{addedScaled}
 use Rattle.square.specs.declared.Line.{Line}
 use Rattle.square.specs.Steps.{noLine, lineAt, entry, stepped, lifted, multiplierAt, unitLine, unitSquare}
 use Rattle.square.proofs.Steps.{added-length, added-at, added-none, stepped-length, stepped-at, stepped-rest}
 use Rattle.document.specs.Bytes.{bytes, Byte, byte}
-use Rattle.document.proofs.Bytes.{byte-zero, byte-one, byte-add, byte-mul, byte-inv, byte-ne, byte-one-one}
+use Rattle.document.proofs.Bytes.{byte-zero, byte-one, byte-add, byte-mul, byte-inv, byte-ne}
 
 unfoldable pub matrix : List Line → ℕ → ℕ → Byte
 matrix s i j = byte (entry s i j)
@@ -44,12 +44,6 @@ pub record UnitShaped (m : ℕ) (t : List Line) : Type 0 where
   pub shape : Shaped m m t
   pub begins : (i j : ℕ) → i < m → j < m → matrix t i j ≡ unit bytes i j
 
--- Where the matrices of two squares agree, their entries do.
-pub entry-same : (s s′ : List Line) → Small s → Small s′ → (i j : ℕ) → matrix s i j ≡ matrix s′ i j
-    → entry s i j ≡ entry s′ i j
-unfolding matrix
-entry-same s s′ small small′ i j e = byte-one-one (entry s i j) (entry s′ i j) (small i j) (small′ i j) e
-
 -- A zero of the square is one of the matrix.
 pub matrix-zero : (s : List Line) (i j : ℕ) → entry s i j ≡ 0 → matrix s i j ≡ bytes .𝟘
 unfolding matrix
@@ -61,8 +55,8 @@ unfolding matrix
 matrix-nonzero s small i j n = byte-ne (entry s i j) (small i j) n
 
 -- The bytes of 1 at r and 0 elsewhere are the unit vector.
-pub unit-factor : (r i : ℕ) → byte (cond (eqb i r) 1 0) ≡ unit bytes r i
-unit-factor r i = go (ℕ-discrete i r)
+pub unit-multiplier : (r i : ℕ) → byte (cond (eqb i r) 1 0) ≡ unit bytes r i
+unit-multiplier r i = go (ℕ-discrete i r)
   where
     go : Dec (i ≡ r) → byte (cond (eqb i r) 1 0) ≡ unit bytes r i
     go (yes e) = rw (eq-eqb i r e) (byte-one ∙ sym (rw e (unit-at bytes r)))
@@ -129,7 +123,7 @@ unit-square q l = record {
   };
   begins = λ i j h k.
       ap (λ (x : List ℕ). byte (getD x j 0)) (unit-square-at q i (omega arith))
-      ∙ ap byte (unit-line-at q i j (omega arith)) ∙ unit-factor i j;
+      ∙ ap byte (unit-line-at q i j (omega arith)) ∙ unit-multiplier i j;
 }
 
 -- ---- a step
@@ -163,7 +157,7 @@ module _ {c : ℕ → ℕ} {p m w : ℕ} {s b : List Line} (t : Taken c p m s b)
       go i j (yes h) = rw (t .line i h) (added-small (c i) (lineAt s p) (lineAt s i) (S .small i) j)
       go i j (no h) = rw (t .rest i (omega arith)) (S .small i j)
 
-  -- Of the matrices it is a step, by the bytes of the factors.
+  -- Of the matrices it is a step, by the bytes of the multipliers.
   pub taken-step : (f : ℕ → Byte) → ((i : ℕ) → i < m → byte (c i) ≡ f i) → Step bytes m w p f (matrix s) (matrix b)
   unfolding matrix
   taken-step f e i j h k =
@@ -187,7 +181,7 @@ pub lifted-same : (r p : ℕ) (s : List Line) → p ≡ r → lifted r p s ≡ s
 unfolding lifted
 lifted-same r p s e = rw (eq-eqb p r e)
 
--- A lower line added to line r is one too: with the factor 1 there, and 0 elsewhere.
+-- A lower line added to line r is one too: with the multiplier 1 there, and 0 elsewhere.
 pub lifted-taken : (r p m : ℕ) (s : List Line) → p ≢ r → r < m → m ≤ length s
     → Taken (λ i. cond (eqb i r) 1 0) p m s (lifted r p s)
 unfolding lifted
@@ -207,20 +201,20 @@ lifted-taken r p m s n h l =
         rw (ne-eqb i r d) (ap (λ (x : Line). x .c) (getD-set-other s r i _ noLine d)
         ∙ sym (added-none 0 (lineAt s p) (lineAt s i) refl))
 
--- The bytes of the factors that clear a column are the algebra's coefficients.
-pub clear-factor : (b : List Line) (r i : ℕ) → Small b → byte (multiplierAt b r r i) ≡ coefficient bytes r (matrix b) i
+-- The bytes of the multipliers that clear a column are the algebra's.
+pub multiplier-byte : (b : List Line) (r i : ℕ) → Small b → byte (multiplierAt b r r i) ≡ multiplier bytes r (matrix b) i
 unfolding multiplierAt matrix
-clear-factor b r i small = go (ℕ-discrete i r)
+multiplier-byte b r i small = go (ℕ-discrete i r)
   where
     go : Dec (i ≡ r)
         → byte (cond (eqb i r) (1 ⊕ inverse (entry b r r)) (inverse (entry b r r) ⊗ entry b i r))
-        ≡ coefficient bytes r (matrix b) i
+        ≡ multiplier bytes r (matrix b) i
     go (yes e) =
         rw (eq-eqb i r e, e) (byte-add 1 (inverse (entry b r r)) (omega arith) (inverse-lt (entry b r r))
         ∙ ap₂ (bytes .add) byte-one (byte-inv (entry b r r) (small r r))
-        ∙ sym (coefficient-at bytes r (matrix b)))
+        ∙ sym (multiplier-at bytes r (matrix b)))
     go (no n) =
         rw (ne-eqb i r n) (byte-mul (inverse (entry b r r)) (entry b i r)
         ∙ bytes .mul-comm (byte (inverse (entry b r r))) (byte (entry b i r))
         ∙ ap (bytes .mul (byte (entry b i r))) (byte-inv (entry b r r) (small r r))
-        ∙ sym (coefficient-off bytes r (matrix b) i n))
+        ∙ sym (multiplier-off bytes r (matrix b) i n))

@@ -3,7 +3,6 @@
 --
 -- vector l          : the list l as a vector over the bytes
 -- Null m w M r l    : the vector of l is 1 at r < w, and M takes it to zero
--- Made m w M u      : u is the inverse of M
 -- Good m w M e      : what holds of M where the elimination of its lines ends with e
 -- State m w M r a t : the elimination of M has come to the square a with the right half t, and r columns are done
 use mathlib.Core.Path.{_≡_, refl, sym, ap, _∙_}
@@ -17,7 +16,7 @@ use lib.Dec.{eqb, ltb}
 use lib.ListN.{getD}
 use borrow.Author.Tests.{lt-ltb, le-ltb, eq-eqb, ne-eqb}
 use Rattle.lists.proofs.Listed.{listed-at}
-use Rattle.algebra.specs.Square.{unit, Matrix, Solves, Kernel, Inverse, Step, Reached, Reduced, coefficient}
+use Rattle.algebra.specs.Square.{unit, Matrix, Solves, Kernel, Inverse, Step, Reached, Reduced, multiplier}
 use Rattle.algebra.proofs.Square.{dot-zeros}
 use Rattle.algebra.proofs.Elimination.{
   start,
@@ -37,7 +36,7 @@ use Rattle.algebra.proofs.Elimination.{
 use Rattle.square.specs.declared.Line.{Line}
 use Rattle.square.specs.declared.Pivot.{Pivot}
 use Rattle.square.specs.declared.Pivot.the-variants.{At, Missing}
-use Rattle.square.specs.Steps.{entry, stepped, lifted, multiplierAt, pivotFrom, unitSquare}
+use Rattle.square.specs.Steps.{entry, stepped, lifted, multiplierAt, pivotFrom}
 use Rattle.square.specs.Elimination.{Ended, whole, stuck, endFrom, eliminated, singular, kernelFrom}
 use Rattle.square.proofs.Pivots.{Pivoted, pivoted, unpivoted}
 use Rattle.square.proofs.Ends.{end-at, end-stuck}
@@ -46,16 +45,16 @@ use Rattle.document.proofs.Bytes.{byte-zero, byte-one}
 use Rattle.document.proofs.SquareSteps.{
   matrix-zero,
   matrix-nonzero,
-  unit-factor,
+  unit-multiplier,
   Taken,
   taken-shaped,
   taken-step,
   stepped-taken,
   lifted-same,
   lifted-taken,
-  clear-factor,
+  multiplier-byte,
 }
-pub use Rattle.document.proofs.SquareSteps.{matrix, Small, Shaped, UnitShaped, entry-same, unit-square}
+use Rattle.document.proofs.SquareSteps.{matrix, Shaped, UnitShaped}
 
 unfoldable pub vector : List ℕ → ℕ → Byte
 vector l j = byte (getD l j 0)
@@ -90,12 +89,8 @@ module _ (m w : ℕ) (M : Matrix bytes) where
     pub one : vector l r ≡ bytes .𝟙
     pub kills : Solves bytes m w M (λ i. bytes .𝟘) (vector l)
 
-  record Made (u : List Line) : Type 0 where
-    shape : Shaped m m u
-    inverse : Inverse bytes m w M (matrix u)
-
   unfoldable Good : Ended → Type 0
-  Good (whole u) = Made u
+  Good (whole u) = Inverse bytes m w M (matrix u)
   Good (stuck r a) = Null r (kernelFrom w r a)
 
   -- The vector is not zero, so it is in the kernel.
@@ -127,7 +122,7 @@ module _ (m w : ℕ) (M : Matrix bytes) where
 
     -- As a step of the matrices.
     lift-step : Step bytes m w p (unit bytes r) (matrix a) (matrix (lifted r p a))
-    lift-step = taken-step lift-taken (S .shape) (unit bytes r) (λ i q. unit-factor r i)
+    lift-step = taken-step lift-taken (S .shape) (unit bytes r) (λ i q. unit-multiplier r i)
 
     -- As many columns are done as before.
     lift-state : State r (lifted r p a) (lifted r p t)
@@ -136,7 +131,7 @@ module _ (m w : ℕ) (M : Matrix bytes) where
       beside = taken-shaped lift-beside (S .beside);
       reached =
           reached-step bytes m w p (unit bytes r) M (matrix a) (matrix t) _ _ l (lift-kept bytes r p h) lift-step
-          (taken-step lift-beside (S .beside) (unit bytes r) (λ i q. unit-factor r i)) (S .reached);
+          (taken-step lift-beside (S .beside) (unit bytes r) (λ i q. unit-multiplier r i)) (S .reached);
       reduced = lift-reduced bytes r m w p (matrix a) _ h l k lift-step (S .reduced);
     }
 
@@ -159,10 +154,10 @@ module _ (m w : ℕ) (M : Matrix bytes) where
   }
     where
       c : ℕ → Byte
-      c = coefficient bytes r (matrix b)
+      c = multiplier bytes r (matrix b)
 
       same : (i : ℕ) → i < m → byte (multiplierAt b r r i) ≡ c i
-      same i q = clear-factor b r i (S .shape .small)
+      same i q = multiplier-byte b r i (S .shape .small)
 
       taken : Taken (multiplierAt b r r) r m b (stepped (multiplierAt b r r) r b m)
       taken = stepped-taken (multiplierAt b r r) r m b (S .shape .long)
@@ -215,10 +210,7 @@ module _ (m w : ℕ) (M : Matrix bytes) where
   unfolding endFrom Good
   good zero r e l a t S =
       let q : r ≡ w = omega arith in
-      record {
-        shape = S .beside;
-        inverse = finish bytes m w M (matrix a) (matrix t) (omega arith) (S .reached) (rw q at (S .reduced));
-      }
+      finish bytes m w M (matrix a) (matrix t) (omega arith) (S .reached) (rw q at (S .reduced))
   good (suc n) r e l a t S = go (pivotFrom a r r m) refl (good n (suc r) (omega arith))
     where
       go : (x : Pivot) → pivotFrom a r r m ≡ x
@@ -246,16 +238,7 @@ module _ {m w : ℕ} {s t : List Line} (S : Shaped m w s) (T : UnitShaped m t) w
   -- Each column has its pivot: the right half becomes the inverse.
   pub regular : {u : List Line} → eliminated m w s t ≡ whole u → Inverse bytes m w (matrix s) (matrix u)
   unfolding Good
-  regular {u} e =
-      let made : Made m w (matrix s) u = rw e at ended in
-      made .inverse
-
-  -- The right half keeps its shape.
-  pub regular-shaped : {u : List Line} → eliminated m w s t ≡ whole u → Shaped m m u
-  unfolding Good
-  regular-shaped {u} e =
-      let made : Made m w (matrix s) u = rw e at ended in
-      made .shape
+  regular {u} e = rw e at ended
 
   -- Column r has no pivot: the vector that is read off is taken to zero, and it is 1 at r.
   pub stuck-kernel : {r : ℕ} {a : List Line} → eliminated m w s t ≡ stuck r a
@@ -270,7 +253,7 @@ module _ {m w : ℕ} {s t : List Line} (S : Shaped m w s) (T : UnitShaped m t) w
     where
       go : (x : Ended) → Good m w (matrix s) x → (singular x ≡ true) ↔ Kernel bytes m w (matrix s)
       go (whole u) g =
-          ((λ e. let z : _≡_ {A = ℕ} 0 1 = cc in absurd (omega arith)), λ k. absurd (no-kernel bytes (g .inverse) k))
+          ((λ e. let z : _≡_ {A = ℕ} 0 1 = cc in absurd (omega arith)), λ k. absurd (no-kernel bytes g k))
       go (stuck r a) g = ((λ e. null-kernel m w (matrix s) g), λ k. refl)
 
   -- Otherwise there is the inverse.
@@ -281,7 +264,7 @@ module _ {m w : ℕ} {s t : List Line} (S : Shaped m w s) (T : UnitShaped m t) w
     where
       go : (x : Ended) → Good m w (matrix s) x → singular x ≡ false
           → (u : List Line) × (x ≡ whole u) × Inverse bytes m w (matrix s) (matrix u)
-      go (whole u) g e = (u, refl, g .inverse)
+      go (whole u) g e = (u, refl, g)
       go (stuck r a) g e = let z : _≡_ {A = ℕ} 0 1 = cc in absurd (omega arith)
 
 -- ---- two squares with one matrix
@@ -297,10 +280,10 @@ singular-same {m} {w} {s} {t} {s′} {t′} S T S′ T′ same =
     go (whole u) (whole v) g h = refl
     go (stuck r a) (stuck q b) g h = refl
     go (whole u) (stuck q b) g h =
-        absurd (no-kernel bytes (g .inverse)
+        absurd (no-kernel bytes g
         (kernel-ext bytes (λ i j k l. sym (same i j k l)) (null-kernel m w (matrix s′) h)))
     go (stuck r a) (whole v) g h =
-        absurd (no-kernel bytes (h .inverse) (kernel-ext bytes same (null-kernel m w (matrix s) g)))
+        absurd (no-kernel bytes h (kernel-ext bytes same (null-kernel m w (matrix s) g)))
 
 -- So does the inverse.
 pub inverse-same : {m : ℕ} {s t s′ t′ u u′ : List Line}

@@ -2,10 +2,11 @@
 use mathlib.Core.Path.{_≡_, refl, sym, ap, _∙_}
 use mathlib.Core.Bool.{Bool, true, false, cond, false≢true}
 use mathlib.Core.List.{List}
-use Prim.Native.Nat.{ℕ, zero, suc, _+_, _-_, min, _≤_, _<_}
+use Prim.Native.Nat.{ℕ, zero, suc, _+_, _-_, _≤_, _<_}
+use native.Mathlib.Numerals.{add-one}
 use native.Mathlib.Decide.{ℕ-discrete, decLt}
 use native.Mathlib.Omega.{arith}
-use borrow.Author.Tests.{le-leb, lt-leb, lt-ltb, le-ltb, eq-eqb, ne-eqb}
+use borrow.Author.Tests.{lt-ltb, le-ltb, eq-eqb, ne-eqb}
 use Rattle.ksets.specs.Sets.{sets, setAt}
 use Rattle.ksets.proofs.Ranked.{set-rising}
 use Rattle.document.specs.declared.Profile.{Profile}
@@ -15,7 +16,7 @@ use Rattle.document.specs.Refusals.{Decides}
 use Rattle.document.specs.Profile.{Accepted}
 use Rattle.document.specs.Reading.{TwoData}
 use Rattle.document.specs.Survey.{firstIn, failsAt, lookedAt, foundFrom, resultOf}
-use Rattle.document.proofs.Lists.{decides-ambiguous}
+use Rattle.document.proofs.NodeLists.{decides-ambiguous}
 
 module _ (P : ℕ → Bool) where
   -- f is the first of the c positions from `at` on for which P holds; the one after them if there is none.
@@ -107,6 +108,25 @@ module _ (P : ℕ → Bool) where
           go (yes l) = F .before pos low (omega arith)
           go (no l) = G .before pos (omega arith) high
 
+-- The search as a loop makes it, from `at` on and before `end`.
+module _ (P : ℕ → Bool) (at end : ℕ) where
+  -- there is nothing left to look at
+  pub range-none : at ≡ end → firstIn P at (end - at) ≡ end
+  unfolding firstIn
+  range-none e = let z : end - at ≡ 0 = omega arith in ap (firstIn P at) z ∙ e
+
+  module _ (l : at < end) where
+    more : end - at ≡ suc (end - (at + 1))
+    more = omega arith
+
+    pub range-here : P at ≡ true → firstIn P at (end - at) ≡ at
+    unfolding firstIn
+    range-here h = ap (firstIn P at) more ∙ simp h
+
+    pub range-later : P at ≡ false → firstIn P at (end - at) ≡ firstIn P (at + 1) (end - (at + 1))
+    unfolding firstIn
+    range-later h = ap (firstIn P at) more ∙ simp (h, add-one)
+
 module _ (p : Profile) where
   open Profile p using (n, k)
 
@@ -115,16 +135,6 @@ module _ (p : Profile) where
       → Decides (failsAt p pos) (TwoData p (setAt 0 n k pos))
   unfolding failsAt
   decides-fails acc pos h = decides-ambiguous p acc (setAt 0 n k pos) (set-rising n k pos h)
-
-  -- 'the smaller of B and what was left'
-  pub looked-min : (start most : ℕ) → lookedAt p start most ≡ min most (sets n k - start)
-  looked-min start most = go (decLt (sets n k - start) most)
-    where
-      go : Dec (sets n k - start < most) → lookedAt p start most ≡ min most (sets n k - start)
-      go (yes l) = rw (lt-leb most (sets n k - start) l) (omega arith)
-      go (no l) =
-          let e : most ≤ sets n k - start = omega arith in
-          rw (le-leb most (sets n k - start) e) (omega arith)
 
   -- ---- the result, by its three cases
   -- what is answered and written where the set at a position is the first that fails

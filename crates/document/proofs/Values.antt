@@ -1,4 +1,5 @@
--- The values of answers are small: a strip's index is below the number of planned places, and a bundle is short.
+-- The values of answers are small: a strip's index is below the number of planned places, a bundle is short, and a survey's
+-- position and number of sets are at most the number of sets of 12 of 24 nodes.
 use mathlib.Core.Path.{_≡_, refl}
 use mathlib.Core.Bool.{Bool, true, false, _&&_, not}
 use mathlib.Core.List.{List, [], _∷_, _++_}
@@ -40,7 +41,7 @@ use Rattle.document.proofs.Decides.{decides-eq, decides-both}
 use Rattle.document.proofs.Accepts.{none-refused, accepted}
 use Rattle.document.proofs.Price.{few-places}
 use Rattle.document.proofs.Bundle.{bundle-length}
-use Rattle.document.proofs.Surveys.{looked-min, by-result}
+use Rattle.document.proofs.Surveys.{by-result}
 
 -- Of a list of tests: each refusal comes with an index of at most `most`, if those before it were not given, and Q holds
 -- if none was.
@@ -130,7 +131,6 @@ module _ (p : Numbers) where
       counted : Accepted q → start ≤ sets (p .n) (p .k) → Counted (resultOf q start most x .0)
       counted acc h =
           let b = all acc in
-          let l = looked-min q start most in
           by-result q start most x (λ o. Counted (o .0))
           (λ u. record { position = omega arith; looked = omega arith })
           (λ u v. record { position = zero-le; looked = omega arith })

@@ -16,7 +16,6 @@ use mathlib.Core.List.{List, [], _∷_, _++_}
 use Prim.Native.Nat.{ℕ, suc, _+_, _*_}
 use lib.Dec.{eqb, ltb}
 use lib.ListN.{length, getD}
-use Rattle.algebra.specs.Coupling.{factor}
 use Rattle.algebra.specs.Rebuild.{rebuiltAt}
 use Rattle.fields.specs.Fields.{openingLength}
 use Rattle.document.specs.declared.Numbers.{Numbers}
@@ -31,7 +30,7 @@ use Rattle.document.specs.Refusals.{Test, tried}
 use Rattle.document.specs.Profile.{profileTests, profileOf}
 use Rattle.document.specs.Places.{place, samePlace}
 use Rattle.document.specs.Bytes.{bytes, Byte, byte}
-use Rattle.document.specs.Encoding.{constantOf, columnOf}
+use Rattle.document.specs.Encoding.{factorAt, columnOf}
 use Rattle.document.specs.Plan.{Walk, walkOf, chosenOver, planned}
 use Rattle.document.specs.Bundle.{recordingLength, headLength, stripFieldLength, bundleTests}
 
@@ -46,7 +45,7 @@ givenAt qs src first stride b q = byte (getD src (first + positionOf q qs * stri
 unfoldable pub rebuiltOver : Profile → Node → Walk → (ℕ → Place → Byte) → List ℕ
 rebuiltOver p f w x =
     columnOf p
-    (λ b q. rebuiltAt bytes (p .a) (p .k) byte (factor bytes (constantOf p)) (f .0)
+    (λ b q. rebuiltAt bytes (p .a) (p .k) byte (factorAt p) (f .0)
     (λ m. getD (chosenOver (p .k) w) m 0) (λ i j. x b (place j i)) (q .row .0))
     (f .0)
 

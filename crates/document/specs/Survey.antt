@@ -1,8 +1,8 @@
 -- 'The survey looks at the sets of k nodes in lexicographic order, starting at a given position (0 is the first), at
 -- most B sets.'
 --
--- failsAt p pos              : the test whether the set at a position fails
 -- firstIn P at c             : the first of the c positions from `at` on for which P holds; at + c if there is none
+-- failsAt p pos              : the test whether the set at a position fails
 -- lookedAt p start most      : how many sets are looked at where none fails: B, or what is left if that is less
 -- foundFrom p start most     : the first failing position among them; the position after them if there is none
 -- resultOf p start most x    : what a survey that is not refused answers, and what the buffer x holds then
@@ -17,8 +17,8 @@
 -- From `ksets`: sets n k is the number of sets of k of n nodes, setAt 0 n k pos the set at a position.
 use mathlib.Core.Bool.{Bool, not, cond}
 use mathlib.Core.List.{List, [], _∷_, _++_}
-use Prim.Native.Nat.{ℕ, zero, suc, _+_, _-_}
-use lib.Dec.{eqb, leb, ltb}
+use Prim.Native.Nat.{ℕ, zero, suc, _+_, _-_, min}
+use lib.Dec.{eqb, ltb}
 use lib.ListN.{length}
 use Rattle.ksets.specs.Sets.{sets, setAt}
 use Rattle.document.specs.declared.Numbers.{Numbers}
@@ -45,7 +45,7 @@ module _ (p : Profile) where
 
   -- 'the smaller of B and what was left'
   abbrev pub lookedAt : ℕ → ℕ → ℕ
-  lookedAt start most = cond (leb most (sets n k - start)) most (sets n k - start)
+  lookedAt start most = min most (sets n k - start)
 
   unfoldable pub foundFrom : ℕ → ℕ → ℕ
   foundFrom start most = firstIn failsAt start (lookedAt start most)

@@ -13,9 +13,8 @@ use Rattle.lists.specs.Listed.{listed}
 use Rattle.lists.proofs.Listed.{listed-length, listed-at}
 use Rattle.algebra.proofs.Sum.{sum-ext}
 use Rattle.square.specs.declared.Line.{Line}
-use Rattle.square.specs.declared.Verdict.{Verdict}
 use Rattle.square.specs.declared.Verdict.the-variants.{Regular, Singular}
-use Rattle.square.specs.Steps.{noLine, lineAt, entry, filled, unitSquare}
+use Rattle.square.specs.Steps.{noLine, lineAt, entry}
 use Rattle.square.specs.Elimination.{Ended, whole, stuck, verdictAndLines, singular}
 use Rattle.square.proofs.Steps.{filled-at, filled-rest, filled-length}
 use Rattle.document.specs.declared.Profile.{Profile}
@@ -38,6 +37,7 @@ use Rattle.document.proofs.SquareSteps.{matrix, Shaped, unit-square}
 use Rattle.document.proofs.Arrays.{laid-ext}
 use Rattle.document.proofs.Squares.{singular-same, inverse-same}
 use Rattle.document.proofs.Reading.{listed-small, square-shaped, square-at}
+use Rattle.coefficients.specs.Data.{coefficientLine}
 use Rattle.reading.specs.Steps.{lineIn, zeroLines, paddedSquare, paddedEnd, sumFrom, dataBy}
 
 -- an entry of a list that repeats one thing, or of nothing past its end
@@ -62,7 +62,7 @@ module _ (p : Profile) (acc : Accepted p) (nodes : List ℕ) where
   padded-line : (z : ℕ) → z < m
       → lineAt (paddedSquare p nodes) z
       ≡ listed 80 (λ e. number (coefficientAt p (joinedPlace p nodes z) (dataPlace p e)))
-  unfolding paddedSquare lineIn
+  unfolding paddedSquare coefficientLine
   padded-line z h = ap (λ (l : Line). l .c) (filled-at lineOfStrip zeroLines m z noLine h few)
 
   -- the lines past it

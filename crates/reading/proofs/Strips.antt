@@ -1,5 +1,5 @@
 -- A data strip as a sum of strips, one more at a time.
-use mathlib.Core.Path.{_≡_, sym, ap, ap₂, _∙_}
+use mathlib.Core.Path.{_≡_, sym, ap, _∙_}
 use mathlib.Core.List.{List}
 use Prim.Native.Nat.{ℕ, suc, _+_, _*_, _/_, _%_, _<_}
 use native.Mathlib.Nat.{mod-lt}
@@ -20,7 +20,7 @@ use Rattle.document.specs.declared.Profile.{Profile}
 use Rattle.document.specs.Places.{place}
 use Rattle.document.specs.Encoding.{laidOut}
 use Rattle.document.specs.Reading.{dataIndex}
-use Rattle.document.specs.Bytes.{bytes, byte, number}
+use Rattle.document.specs.Bytes.{bytes, Byte, byte, number}
 use Rattle.document.proofs.Bytes.{number-zero, number-add, number-byte, byte-mul}
 use Rattle.reading.specs.Steps.{sumFrom, stripFrom, addedFrom, dataBy}
 
@@ -46,17 +46,18 @@ module _ (line x : List ℕ) (s : ℕ) where
       ap (λ (w : ℕ). addedScaled f 0 (listed w (λ b. getD x (z * w + b) 0)) (listed s before)) (listed-length s before)
       ∙ added-listed f s (λ b. getD x (z * s + b) 0) before
       ∙ listed-ext s _ _ (λ b l. more b)
-      ∙ ap (λ (c : ℕ). listed s (λ b. number (sum bytes c (λ z. bytes .mul (byte (getD line z 0)) (byte (getD x (z * s + b) 0))))))
-      (sym (add-one z))
+      ∙ ap (λ (c : ℕ). listed s (λ b. number (upTo b c))) (sym (add-one z))
     where
       f : ℕ
       f = getD line z 0
 
-      before : ℕ → ℕ
-      before b = number (sum bytes z (λ z. bytes .mul (byte (getD line z 0)) (byte (getD x (z * s + b) 0))))
+      upTo : ℕ → ℕ → Byte
+      upTo b c = sum bytes c (λ z. bytes .mul (byte (getD line z 0)) (byte (getD x (z * s + b) 0)))
 
-      more : (b : ℕ) → before b ⊕ (f ⊗ getD x (z * s + b) 0)
-          ≡ number (sum bytes (suc z) (λ z. bytes .mul (byte (getD line z 0)) (byte (getD x (z * s + b) 0))))
+      before : ℕ → ℕ
+      before b = number (upTo b z)
+
+      more : (b : ℕ) → before b ⊕ (f ⊗ getD x (z * s + b) 0) ≡ number (upTo b (suc z))
       more b =
           let v : ℕ = getD x (z * s + b) 0 in
           sym

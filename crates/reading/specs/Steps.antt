@@ -1,10 +1,11 @@
 -- What the steps of reading back leave.
 --
--- lineIn p q                 : the coefficients of the data symbols in what is stored at q, in a line of 80
--- zeroLines                    : an array of 80 lines of zeros
+-- lineIn p q                 : the line of the coefficients of the place q
+-- zeroLines                  : an array of 80 lines of zeros
 -- paddedSquare p nodes       : the coefficient square in an array of 80 lines of 80: zeros past its lines
 -- paddedEnd p nodes          : how its elimination ends
--- sumFrom line x count s b   : byte b of the first `count` strips of x, of s bytes each, each times its entry of the line, added up
+-- sumFrom line x count s b   : byte b of the first `count` strips of x, of s bytes each, each times its entry of the line,
+--                              added up
 -- stripFrom line x count s   : the strip of s such bytes
 -- addedFrom x z f y          : y with f times strip z of x added, where the strips are as long as y
 -- dataBy p inverse x         : the data by the lines of an inverse: strip q of the data by line dataIndex q
@@ -27,13 +28,14 @@ use Rattle.document.specs.declared.Answer.{Answer}
 use Rattle.document.specs.declared.Answer.the-variants.{Done, Refused}
 use Rattle.document.specs.Bytes.{bytes, Byte, byte, number}
 use Rattle.document.specs.Encoding.{laidOut}
-use Rattle.document.specs.Reading.{coefficientAt, dataPlace, dataIndex, joinedPlace, ambiguous, dataFrom}
+use Rattle.document.specs.Reading.{dataIndex, joinedPlace, ambiguous, dataFrom}
+use Rattle.coefficients.specs.Data.{coefficientLine}
 
 infixl 70 _⊗_
 open Field bytes using (mul as _⊗_)
 
-unfoldable pub lineIn : Profile → Place → Line
-lineIn p q = record { c = listed 80 (λ e. number (coefficientAt p q (dataPlace p e))) }
+abbrev pub lineIn : Profile → Place → Line
+lineIn p q = record { c = coefficientLine p q }
 
 abbrev pub zeroLines : List Line
 zeroLines = replicate 80 (record { c = replicate 80 0 })

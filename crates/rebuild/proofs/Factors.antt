@@ -1,4 +1,4 @@
--- The profile's factors, determinants and scales, case by case, as the functions return them; no determinant is 0.
+-- The determinants and scales, case by case, as the functions return them; no determinant is 0.
 use mathlib.Core.Path.{_≡_, sym, ap, _∙_}
 use mathlib.Core.Logic.{_≢_}
 use mathlib.Core.List.{List}

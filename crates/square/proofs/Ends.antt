@@ -27,7 +27,7 @@ module _ (rows r : ℕ) (a t : List Line) where
       ≡ clearing rows r (endFrom rows (columns - (r + 1)) (r + 1)) (lifted r p a) (lifted r p t)
   end-next columns p h e = rw (left-next r columns h) (rw (add-one r) (end-at (columns - suc r) p e))
 
-  -- a turn of the loop: the factors are computed from the lifted square
+  -- a turn of the loop: the multipliers are computed from the lifted square
   pub end-turn : (columns : ℕ) {p : ℕ} {b u a' t' : List Line} (f : ℕ → ℕ) → r < columns
       → pivotFrom a r r rows ≡ At p → b ≡ lifted r p a → u ≡ lifted r p t
       → ((i : ℕ) → i < rows → f i ≡ multiplierAt b r r i) → a' ≡ stepped f r b rows → t' ≡ stepped f r u rows

@@ -136,7 +136,7 @@ module _ (c : ℕ → ℕ) (p : ℕ) (s : List Line) (rows : ℕ) where
   unfolding stepped
   stepped-rest i h = ap (λ (x : Line). x .c) (filled-rest _ s rows i noLine h)
 
--- the factors count below `rows` alone
+-- the multipliers count below `rows` alone
 pub stepped-ext : (c e : ℕ → ℕ) (p : ℕ) (s : List Line) (rows : ℕ) → ((i : ℕ) → i < rows → c i ≡ e i)
     → stepped c p s rows ≡ stepped e p s rows
 unfolding stepped

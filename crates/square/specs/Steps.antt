@@ -41,7 +41,7 @@ filled f l (suc n) = set (filled f l n) n (f n)
 unfoldable pub stepped : (ℕ → ℕ) → ℕ → List Line → ℕ → List Line
 stepped c p s rows = filled (λ i. record { c = addedScaled (c i) 0 (lineAt s p) (lineAt s i) }) s rows
 
--- A zero pivot is mended by a lower line.
+-- Where the pivot is zero, a lower line is added.
 unfoldable pub lifted : ℕ → ℕ → List Line → List Line
 lifted r p s = cond (eqb p r) s (set s r (record { c = addedScaled 1 0 (lineAt s p) (lineAt s r) }))
 

@@ -1,5 +1,6 @@
 // The coefficient square as an array of lines, passed by value through the steps of its elimination. A row of it is called
-// a line, since `Row` is the number of a strip's row; `rows` and `columns` count its lines and columns, apart.
+// a line, since `Row` is the number of a strip's row. `rows` and `columns` say how many lines and columns count; they may
+// differ. 80 is the largest kA of an accepted profile.
 ghost use mathlib.Core.Path.{_≡_};
 ghost use Prim.Native.Nat.{ℕ, _≤_, _<_};
 ghost use lib.ListN.{getD, replicate};
@@ -42,7 +43,7 @@ fn line_added(x: Line, y: Line, f: u8) -> Line
     Line { c: z }
 }
 
-// To each line i below `rows` is added c(i) times line p; a line with the factor 0 is left alone.
+// To each line i below `rows` is added c(i) times line p; a line with the multiplier 0 is left alone.
 fn step(s: [Line; 80], p: usize, c: [u8; 80], rows: usize) -> [Line; 80]
     requires { ⌜ (p < 80) × (rows ≤ 80) ⌝ }
     ensures { λ r. ⌜ r ≡ stepped (λ i. getD c i 0) p s rows ⌝ }
@@ -95,7 +96,7 @@ fn column_entries(s: [Line; 80], column: usize, rows: usize) -> [u8; 80]
 
 // What each line is given of line r, so that the column has 1 there and 0 elsewhere: the entry times the inverse of the
 // pivot, and in line r itself what makes the pivot 1.
-fn factors(s: [Line; 80], r: usize, column: usize, rows: usize) -> [u8; 80]
+fn multipliers(s: [Line; 80], r: usize, column: usize, rows: usize) -> [u8; 80]
     requires { ⌜ (r < rows) × (column < 80) × (rows ≤ 80) ⌝ }
     ensures { λ z. ⌜ ((i : ℕ) → i < rows → getD z i 0 ≡ multiplierAt s r column i) ⌝ }
 {
@@ -159,7 +160,7 @@ pub fn invert(s: [Line; 80], rows: usize, columns: usize) -> Eliminated
             Pivot::At(p) => {
                 let b = lift(a, r, p);
                 let u = lift(t, r, p);
-                let c = factors(b, r, r, rows);
+                let c = multipliers(b, r, r, rows);
                 a = step(b, r, c, rows);
                 t = step(u, r, c, rows);
             }
@@ -189,7 +190,7 @@ pub fn judge(s: [Line; 80], rows: usize, columns: usize) -> Verdict
         match find_pivot(a, r, r, rows) {
             Pivot::At(p) => {
                 let b = lift(a, r, p);
-                let c = factors(b, r, r, rows);
+                let c = multipliers(b, r, r, rows);
                 a = step(b, r, c, rows);
             }
             Pivot::Missing => {

@@ -1,7 +1,7 @@
 -- What the search of a survey leaves.
 --
 -- Found p start end r x  : r is the first failing position from `start` on before `end`, or `end`; where a set fails,
---                          it is x
+--                          it is x; x has k entries
 use mathlib.Core.Path.{_≡_}
 use mathlib.Core.List.{List}
 use Prim.Native.Nat.{ℕ, _-_, _<_}

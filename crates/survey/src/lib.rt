@@ -1,9 +1,7 @@
 // The survey of a profile: the sets of k nodes one after the other, each decided by elimination of the coefficients
 // alone.
-ghost use mathlib.Core.Bool.{cond};
 ghost use mathlib.Core.Path.{_≡_};
-ghost use Prim.Native.Nat.{_+_, _≤_, _<_};
-ghost use lib.Dec.{leb};
+ghost use Prim.Native.Nat.{_+_, _≤_, _<_, min};
 ghost use lib.ListN.{length};
 ghost use Rattle.ksets.specs.Sets.{sets, setAt, Rising};
 ghost use Rattle.document.specs.Profile.{Accepted};
@@ -77,8 +75,8 @@ fn first_failing(p: Profile, set: &mut [u8], start: usize, end: usize) -> usize
 }
 
 // The smaller of two numbers.
-fn smaller(a: usize, b: usize) -> usize
-    ensures { λ r. ⌜ (r ≡ cond (leb a b) a b) × (r ≤ b) ⌝ }
+fn least(a: usize, b: usize) -> usize
+    ensures { λ r. ⌜ r ≡ min a b ⌝ }
 {
     if a <= b { a } else { b }
 }
@@ -89,7 +87,7 @@ fn survey_from(p: Profile, start: usize, most: usize, total: usize, set: &mut [u
     ensures { λ r. ⌜ (r, now (set .exit)) ≡ resultOf p start most (now (set .entry)) ⌝ }
 {
     let k = p.k;
-    let looked = smaller(most, total - start);
+    let looked = least(most, total - start);
     let end = start + looked;
     let mut current = [0u8; 24];
     let found = first_failing(p, &mut current[..k], start, end);

@@ -8,7 +8,7 @@ use borrow.Author.Needs.{needs}
 use lib.ListN.{length, take, drop}
 use Rattle.strips.specs.Strips.{addedScaled}
 use Rattle.document.proofs.Bounds.{room, square-bound, table-bound}
-use Rattle.coefficients.specs.Data.{dataWeights, weightTable}
+use Rattle.coefficients.specs.Data.{dataWeights}
 use Rattle.coefficients.proofs.Data.{data-weights-length, table-length, table-at}
 use Rattle.coefficients.proofs.add_weights.Statement.{statement}
 use Rattle.coefficients.proofs.add_weights.Tie as tie

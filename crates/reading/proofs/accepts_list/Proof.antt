@@ -4,7 +4,7 @@ use mathlib.Core.Path.{_≡_, sym, ap, _∙_}
 use Prim.Native.Nat.{ℕ, _-_, _≤_}
 use native.Mathlib.Omega.{arith}
 use borrow.Author.Needs.{needs}
-use lib.ListN.{length, getD, drop}
+use lib.ListN.{length, drop}
 use Rattle.document.specs.Reading.{listAccepted}
 use Rattle.reading.proofs.NodeLists.{list-length, too-low, too-high, next-entry, all-entries}
 use Rattle.reading.proofs.accepts_list.Statement.{statement}

@@ -3,20 +3,17 @@ use mathlib.Core.Path.{_≡_, sym, ap, ap₂, subst, _∙_}
 use mathlib.Core.List.{List}
 use Prim.Native.Nat.{ℕ, _-_, _*_, _≤_, _<_}
 use native.Mathlib.Omega.{arith}
-use borrow.Author.Needs.{needs}
-use lib.ListN.{length, set, replicate}
-use Rattle.lists.specs.Listed.{listed}
+use lib.ListN.{set}
 use Rattle.square.specs.declared.Line.{Line}
 use Rattle.square.specs.Steps.{filled}
 use Rattle.square.proofs.Steps.{filled-none, filled-next}
 use Rattle.document.specs.declared.Profile.{Profile}
-use Rattle.document.specs.declared.Place.{Place}
-use Rattle.document.specs.Bytes.{number}
 use Rattle.document.specs.Places.{Within}
-use Rattle.document.specs.Reading.{coefficientAt, dataPlace, joinedPlace}
+use Rattle.document.specs.Reading.{joinedPlace}
 use Rattle.document.proofs.Bounds.{square-bound}
 use Rattle.ksets.proofs.Ranked.{risen-length}
 use Rattle.document.proofs.Reading.{joined-within}
+use Rattle.coefficients.specs.Data.{coefficientLine}
 use Rattle.reading.specs.Steps.{lineIn, zeroLines, paddedSquare}
 use Rattle.reading.proofs.coefficient_square.Statement.{statement}
 use Rattle.reading.proofs.coefficient_square.Tie as tie
@@ -69,7 +66,6 @@ loop-less : tie.Need-loop-less Inv-loop μ-loop
 loop-less c = omega (arith, c .before .before .loop-test .taken)
 
 loop-again : tie.Need-loop-again Inv-loop μ-loop
-unfolding lineIn
 loop-again c =
     let t = c .before .before in
     let s = start t in
@@ -77,8 +73,7 @@ loop-again c =
       omega (arith, t .loop-test .taken),
       ap₂ (λ (x : List Line) (y : List ℕ). set x (l .z) (record { c = y })) (l .inv .1)
           (c .line .ensures
-          ∙ ap (λ (q : Place). listed 80 (λ e. number (coefficientAt (p t) q (dataPlace (p t) e))))
-          (c .before .joined-place .ensures))
+          ∙ ap (coefficientLine (p t)) (c .before .joined-place .ensures))
           ∙ filled-next (λ z. lineIn (p t) (joinedPlace (p t) (s .args .nodes .now) z)) zeroLines (l .z),
     )
 

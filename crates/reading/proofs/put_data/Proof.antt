@@ -1,7 +1,7 @@
 -- `reading::put_data` meets its contract. The invariant: the strips before y are written.
-use mathlib.Core.Path.{_≡_, sym, ap, ap₂, subst, _∙_}
+use mathlib.Core.Path.{_≡_, sym, ap₂, subst, _∙_}
 use mathlib.Core.List.{List}
-use Prim.Native.Nat.{ℕ, _+_, _-_, _*_, _/_, _%_, _≤_, _<_}
+use Prim.Native.Nat.{ℕ, _+_, _-_, _*_, _/_, _%_, _≤_}
 use native.Mathlib.Omega.{arith}
 use borrow.Author.Needs.{needs}
 use lib.ListN.{length, take, drop, length-take, length-drop}
@@ -31,7 +31,8 @@ mul-count c = let s = c .before .before .before in omega (arith, square-bound (s
 loop-holds : tie.Need-loop-holds Inv-loop μ-loop
 loop-holds c =
     let s = c .before .before .before in
-    (omega arith, s .pre .1 .1, none-parts (s .args .p .s) (stripAtIndex (s .args .p) (s .args .inverse) (s .args .columns .now)) (s .args .out .now))
+    let f = stripAtIndex (s .args .p) (s .args .inverse) (s .args .columns .now) in
+    (omega arith, s .pre .1 .1, none-parts (s .args .p .s) f (s .args .out .now))
 
 -- in a turn the strip lies within the data
 module _ (c : tie.In-loop Inv-loop μ-loop) where

@@ -10,7 +10,7 @@ use Rattle.document.specs.Profile.{Accepted, checkedOf}
 use Rattle.document.specs.Reading.{listAccepted}
 use Rattle.document.proofs.Accepts.{accepted}
 use Rattle.document.proofs.Bounds.{square-bound, data-bound}
-use Rattle.document.proofs.Lists.{decides-list-accepted}
+use Rattle.document.proofs.NodeLists.{decides-list-accepted}
 use Rattle.reading.proofs.Answers.{
   profile-refused,
   list-refused,

@@ -1,9 +1,8 @@
 -- `reading::read_from` meets its contract: the verdict decides, and the inverse gives the data.
-use mathlib.Core.Path.{_≡_, sym, ap, _∙_}
+use mathlib.Core.Path.{sym, ap, _∙_}
 use mathlib.Core.List.{List}
 use Prim.Native.Nat.{ℕ}
 use borrow.Author.Needs.{needs}
-use Rattle.square.specs.declared.Verdict.{Verdict}
 use Rattle.square.specs.declared.Eliminated.{Eliminated}
 use Rattle.document.specs.declared.Answer.the-variants.{Done}
 use Rattle.reading.specs.Steps.{dataBy, readingAnswer}

@@ -48,8 +48,8 @@ lift-requires c κs = omega (arith, pivoted _ _ _ _ _ (found (c .before)) .high)
 lift-requires-2 : tie.Need-lift-requires-2 Inv-loop μ-loop
 lift-requires-2 c κs = omega (arith, pivoted _ _ _ _ _ (found (c .before .before)) .high)
 
-factors-requires : tie.Need-factors-requires Inv-loop μ-loop
-factors-requires c κs =
+multipliers-requires : tie.Need-multipliers-requires Inv-loop μ-loop
+multipliers-requires c κs =
     let f = pivoted _ _ _ _ _ (found (c .before .before .before)) in
     omega (arith, f .low, f .high)
 
@@ -88,9 +88,9 @@ loop-again c =
     let l = at .loop in
     let g = at .before .before .args in (
       search needs,
-      end-turn (g .rows) (l .r) (l .a) (l .t) (g .columns) (λ i. getD (k .factors .result) i 0)
+      end-turn (g .rows) (l .r) (l .a) (l .t) (g .columns) (λ i. getD (k .multipliers .result) i 0)
           (f .before .before .before .loop-test .taken) (found f) (b .lift .ensures) (k .before .lift2 .ensures)
-          (k .factors .ensures) (c .before .step .ensures) (c .step2 .ensures)
+          (k .multipliers .ensures) (c .before .step .ensures) (c .step2 .ensures)
           ∙ l .inv .1,
     )
 
@@ -115,7 +115,7 @@ invert-spec =
     enum-known-p
     lift-requires
     lift-requires-2
-    factors-requires
+    multipliers-requires
     step-requires
     step-requires-2
     enum-told

@@ -49,8 +49,8 @@ found c = sym (c .before .before .find-pivot .ensures) ∙ c .p .given .1
 lift-requires : tie.Need-lift-requires Inv-loop μ-loop
 lift-requires c κs = omega (arith, pivoted _ _ _ _ _ (found (c .before)) .high)
 
-factors-requires : tie.Need-factors-requires Inv-loop μ-loop
-factors-requires c κs =
+multipliers-requires : tie.Need-multipliers-requires Inv-loop μ-loop
+multipliers-requires c κs =
     let f = pivoted _ _ _ _ _ (found (c .before .before)) in
     omega (arith, f .low, f .high)
 
@@ -87,8 +87,8 @@ loop-again c =
       search needs,
       verdict-alone (g .rows) (g .columns - (l .r + 1)) (l .r + 1) (c .step .result) (unitSquare 80) _
           ∙ ap (λ (x : Ended). verdictAndLines x .verdict)
-          (end-turn (g .rows) (l .r) (l .a) (unitSquare 80) (g .columns) (λ i. getD (k .factors .result) i 0)
-          (f .before .before .before .loop-test .taken) (found f) (b .lift .ensures) refl (k .factors .ensures)
+          (end-turn (g .rows) (l .r) (l .a) (unitSquare 80) (g .columns) (λ i. getD (k .multipliers .result) i 0)
+          (f .before .before .before .loop-test .taken) (found f) (b .lift .ensures) refl (k .multipliers .ensures)
           (c .step .ensures) refl)
           ∙ l .inv .1,
     )
@@ -111,7 +111,7 @@ judge-spec =
     find-pivot-requires
     enum-known-p
     lift-requires
-    factors-requires
+    multipliers-requires
     step-requires
     enum-told
     returns

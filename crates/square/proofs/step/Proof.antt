@@ -1,5 +1,5 @@
 -- `square::step` meets its contract. The loop's invariant: the lines passed are stepped, the others as they were. A
--- line with the factor 0 is left alone, which is what adding 0 times a line gives.
+-- line with the multiplier 0 is left alone, which is what adding 0 times a line gives.
 use mathlib.Core.Path.{_≡_, ap, ap₂, _∙_}
 use mathlib.Core.Logic.{⊎-elim}
 use mathlib.Core.List.{List}

@@ -11,7 +11,7 @@ use Rattle.ksets.specs.Sets.{setAt}
 use Rattle.document.proofs.Bounds.{table-bound}
 use Rattle.coefficients.specs.Data.{weightTable}
 use Rattle.coefficients.proofs.Data.{table-length}
-use Rattle.survey.proofs.First.{first-none}
+use Rattle.document.proofs.Surveys.{range-none}
 use Rattle.survey.proofs.first_failing.Statement.{statement}
 use Rattle.survey.proofs.first_failing.Tie as tie
 
@@ -19,7 +19,7 @@ returns : tie.Need-returns
 returns c =
     let s = c .before .before in
     record {
-      first = sym (first-none _ _ _ (c .if1 .taken));
+      first = sym (range-none _ _ _ (c .if1 .taken));
       set = λ h. absurd (omega (arith, h));
       size = s .pre .1;
     }

@@ -9,7 +9,7 @@ use Rattle.ksets.proofs.Ranked.{set-rising}
 use Rattle.document.specs.declared.Profile.{Profile}
 use Rattle.document.specs.Reading.{ambiguous}
 use Rattle.document.specs.Survey.{failsAt, firstIn}
-use Rattle.survey.proofs.First.{first-none, first-here, first-later}
+use Rattle.document.proofs.Surveys.{range-none, range-here, range-later}
 use Rattle.survey.proofs.look.Statement.{statement}
 use Rattle.survey.proofs.look.Tie as tie
 
@@ -69,7 +69,7 @@ returns c =
     let t = c .before .before .before in
     record {
       first = sym (t .before .loop .inv .3
-          ∙ first-here _ _ _ (t .loop-test .taken) (decided (c .before) ∙ c .if1 .taken));
+          ∙ range-here _ _ _ (t .loop-test .taken) (decided (c .before) ∙ c .if1 .taken));
       set = λ _. here t;
       size = size t;
     }
@@ -98,7 +98,7 @@ loop-again c =
       omega (arith, t .loop-test .taken),
       g .go-on .kept .0 ∙ size t,
       λ h. g .go-on .ensures h ∙ ap (λ (k : ℕ). setAt 0 (p t .n) k (at t + 1)) (size t),
-      t .before .loop .inv .3 ∙ first-later _ _ _ (t .loop-test .taken) (decided (e .before) ∙ e .if1 .left),
+      t .before .loop .inv .3 ∙ range-later _ _ _ (t .loop-test .taken) (decided (e .before) ∙ e .if1 .left),
     )
 
 same-length-2 : tie.Need-same-length-2 Inv-loop μ-loop
@@ -108,7 +108,7 @@ returns-2 : tie.Need-returns-2 Inv-loop μ-loop
 returns-2 c =
     let l = c .before .loop in
     record {
-      first = sym (l .inv .3 ∙ first-none _ _ _ (omega (arith, l .inv .0, c .loop-test .left)));
+      first = sym (l .inv .3 ∙ range-none _ _ _ (omega (arith, l .inv .0, c .loop-test .left)));
       set = λ h. absurd (omega (arith, h));
       size = l .inv .1;
     }

@@ -1,11 +1,9 @@
 -- `survey::survey_from` meets its contract: each return is the answer to what the search found.
 use mathlib.Core.Path.{_≡_, sym, ap, _∙_}
-use mathlib.Core.Bool.{cond}
 use mathlib.Core.List.{List, _++_}
-use Prim.Native.Nat.{ℕ, _+_, _-_, _≤_}
+use Prim.Native.Nat.{min, ℕ, _+_, _-_, _≤_}
 use native.Mathlib.Omega.{arith}
 use borrow.Author.Needs.{needs}
-use lib.Dec.{leb}
 use lib.ListN.{length, drop, replicate, length-append, length-drop, length-replicate}
 use lib.Seq.{length-take-le}
 use Rattle.lists.proofs.Lent.{front-fits, front}
@@ -17,25 +15,25 @@ use Rattle.survey.proofs.Answers.{failing, done, left-open}
 use Rattle.survey.proofs.survey_from.Statement.{statement}
 use Rattle.survey.proofs.survey_from.Tie as tie
 
-sub-smaller : tie.Need-sub-smaller
-sub-smaller c = search needs
+sub-least : tie.Need-sub-least
+sub-least c = search needs
 
-smaller-requires : tie.Need-smaller-requires
-smaller-requires c κs = search needs
+least-requires : tie.Need-least-requires
+least-requires c κs = search needs
 
 -- the number of sets to look at
-module _ (c : tie.After-smaller) where
+module _ (c : tie.After-least) where
   abbrev start : tie.Start
   start = c .before .before
 
-  number : c .smaller .result ≡ lookedAt (start .args .p) (start .args .start) (start .args .most)
+  number : c .least .result ≡ lookedAt (start .args .p) (start .args .start) (start .args .most)
   number =
       let a = start .args in
-      c .smaller .ensures .0
-      ∙ ap (λ (t : ℕ). cond (leb (a .most) (t - a .start)) (a .most) (t - a .start)) (start .pre .1)
+      c .least .ensures
+      ∙ ap (λ (t : ℕ). min (a .most) (t - a .start)) (start .pre .1)
 
-  within : start .args .start + c .smaller .result ≤ start .args .total
-  within = omega (arith, c .smaller .ensures .1, start .pre .2)
+  within : start .args .start + c .least .result ≤ start .args .total
+  within = omega (arith, c .least .ensures, start .pre .2)
 
   few : start .args .p .k ≤ 24
   few = omega (arith, start .pre .0 .shape)
@@ -129,8 +127,8 @@ pub survey-from-spec : {M : Type 1} → statement M
 survey-from-spec =
     tie.close
     (tie.spec
-    sub-smaller
-    smaller-requires
+    sub-least
+    least-requires
     add-end
     array-borrow-prefix-current
     slice-aggregate-first-failing

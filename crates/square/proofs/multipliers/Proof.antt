@@ -1,4 +1,4 @@
--- `square::factors` meets its contract: 0 plus v times each entry, and 1 ⊕ v in line r, where v is the inverse of line
+-- `square::multipliers` meets its contract: 0 plus v times each entry, and 1 ⊕ v in line r, where v is the inverse of line
 -- r's entry.
 use mathlib.Core.Path.{_≡_, ap, ap₂, _∙_}
 use mathlib.Core.Bool.{cond}
@@ -14,8 +14,8 @@ use Rattle.square.specs.declared.Line.{Line}
 use Rattle.square.specs.Steps.{entry, filled, multiplierAt}
 use Rattle.square.proofs.Steps.{filled-at, set-at, added-length, added-at}
 use borrow.Author.Needs.{needs}
-use Rattle.square.proofs.factors.Statement.{statement}
-use Rattle.square.proofs.factors.Tie as tie
+use Rattle.square.proofs.multipliers.Statement.{statement}
+use Rattle.square.proofs.multipliers.Tie as tie
 
 column-entries-requires : tie.Need-column-entries-requires
 column-entries-requires c κs = search needs
@@ -52,10 +52,10 @@ module _ (s : List Line) (r j rows m : ℕ) (h : r < rows) (k : rows ≤ m) wher
   entry-at : (i : ℕ) → i < rows → getD entries i 0 ≡ entry s i j
   entry-at i l = filled-at (λ i. entry s i j) zeros rows i 0 l (omega (arith, size))
 
-  factor-at : (es : List ℕ) (v : ℕ) → es ≡ entries → v ≡ inverse (getD es r 0) → (i : ℕ) → i < rows
+  multiplier-at : (es : List ℕ) (v : ℕ) → es ≡ entries → v ≡ inverse (getD es r 0) → (i : ℕ) → i < rows
       → getD (set (addedScaled v 0 es zeros) r (1 ⊕ v)) i 0 ≡ multiplierAt s r j i
   unfolding multiplierAt
-  factor-at es v ee ev i l =
+  multiplier-at es v ee ev i l =
       let same : (i : ℕ) → i < rows → getD es i 0 ≡ entry s i j =
       λ i l. ap (λ (x : List ℕ). getD x i 0) ee ∙ entry-at i l in
       let one : v ≡ inverse (entry s r j) = ev ∙ ap inverse (same r h) in
@@ -74,11 +74,11 @@ returns c =
     let g = e .before .args in
     λ i l.
     ap (λ (x : List ℕ). getD (set x (g .r) (1 ⊕ n .inverse .result)) i 0) (a .add-scaled .ensures)
-    ∙ factor-at (g .s) (g .r) (g .column) (g .rows) 80 (omega arith) (omega arith) _ (n .inverse .result)
+    ∙ multiplier-at (g .s) (g .r) (g .column) (g .rows) 80 (omega arith) (omega arith) _ (n .inverse .result)
     (e .column-entries .ensures) (n .inverse .ensures) i l
 
-pub factors-spec : {M : Type 1} → statement M
-factors-spec =
+pub multipliers-spec : {M : Type 1} → statement M
+multipliers-spec =
     tie.close
     (tie.spec
     column-entries-requires
