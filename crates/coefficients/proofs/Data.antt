@@ -1,11 +1,11 @@
 -- The data nodes: they differ, a parity node is none of them, and what their weights are.
 use mathlib.Core.Path.{_≡_, sym, ap, _∙_}
 use mathlib.Core.List.{List}
-use Prim.Native.Nat.{ℕ, _*_, _≤_, _<_}
+use Prim.Native.Nat.{ℕ, _+_, _*_, _≤_, _<_}
 use native.Mathlib.Decide.{ℕ-discrete}
 use native.Mathlib.Omega.{arith}
-use lib.ListN.{length, getD, set, take, drop, length-set}
-use lib.Seq.{ext-getD, getD-set-same, getD-set-other}
+use lib.ListN.{length, getD, set, take, drop, replicate, length-set, length-append, length-drop, length-replicate}
+use lib.Seq.{ext-getD, getD-set-same, getD-set-other, take-append-le, drop-append-le}
 use Rattle.lists.specs.Listed.{listed}
 use Rattle.lists.proofs.Listed.{listed-length, listed-at, listed-take}
 use Rattle.lists.proofs.Parts.{part-at}
@@ -14,9 +14,10 @@ use Rattle.algebra.proofs.Polynomial.{apart}
 use Rattle.algebra.proofs.Weight.{weight-at, weight-off, weight-ext}
 use Rattle.document.specs.declared.Profile.{Profile}
 use Rattle.document.specs.Bytes.{bytes, byte, number}
+use Rattle.document.proofs.Bounds.{room}
 use Rattle.document.proofs.Bytes.{number-zero, number-one, points-distinct}
 use Rattle.coefficients.specs.Weights.{Different, Outside, points, weightsOf}
-use Rattle.coefficients.specs.Data.{dataNodes, dataWeights, weightTable}
+use Rattle.coefficients.specs.Data.{dataNodes, dataWeights, nodeWeights, weightTable}
 use Rattle.coefficients.proofs.Lagrange.{weights-length, weights-at}
 
 data-at : (k q : ℕ) → q < k → getD (dataNodes k) q 0 ≡ q
@@ -94,12 +95,32 @@ unit-weights k j few l =
         getD-set-other (zeros k) j q 1 0 d ∙ listed-at k _ q 0 h
         ∙ sym (data-weight k j q h ∙ ap number (weight-off bytes byte q k j l (λ e. d (sym e))) ∙ number-zero)
 
--- the weights at node j in the table
-pub table-at : (p : Profile) (j : ℕ) → j < p .n
-    → take (p .k) (drop (j * p .k) (weightTable p)) ≡ dataWeights (p .k) j
-unfolding weightTable
-table-at p j h = part-at (p .k) (dataWeights (p .k)) (p .n) j h (data-weights-length (p .k) j)
+pub node-weights-length : (p : Profile) → length (nodeWeights p) ≡ p .n * p .k
+unfolding nodeWeights
+node-weights-length p = listed-length (p .n * p .k) _
 
-pub table-length : (p : Profile) → length (weightTable p) ≡ p .n * p .k
-unfolding weightTable
-table-length p = listed-length (p .n * p .k) _
+module _ (p : Profile) where
+  open Profile p using (n, k)
+
+  abbrev rest : List ℕ
+  rest = drop (n * k) (replicate 576 0)
+
+  pub table-length : n * k ≤ 576 → length (weightTable p) ≡ 576
+  unfolding weightTable
+  table-length h =
+      length-append (nodeWeights p) rest
+      ∙ omega (
+        arith,
+        node-weights-length p,
+        length-drop {A = ℕ} (n * k) (replicate 576 0),
+        length-replicate {A = ℕ} 576 0,
+      )
+
+  -- the weights at node j in the table
+  pub table-at : (j : ℕ) → j < n → take k (drop (j * k) (weightTable p)) ≡ dataWeights k j
+  unfolding weightTable nodeWeights
+  table-at j h =
+      let inside : j * k + k ≤ length (nodeWeights p) = omega (arith, node-weights-length p, room j n k h) in
+      ap (take k) (drop-append-le (j * k) (nodeWeights p) rest (omega arith))
+      ∙ take-append-le k (drop (j * k) (nodeWeights p)) rest (rw length-drop (omega arith))
+      ∙ part-at k (dataWeights k) n j h (data-weights-length k j)

@@ -10,12 +10,13 @@ use native.Mathlib.Omega.{arith}
 use lib.ListN.{length, getD, replicate, length-replicate, getD-replicate}
 use lib.Seq.{ext-getD}
 use Rattle.lists.proofs.Listed.{listed-length, listed-at}
-use Rattle.lists.proofs.Patched.{patched-length, patched-in, patched-out}
+use Rattle.lists.proofs.Patched.{patched-in, patched-out}
 use Rattle.gf256.specs.Field.{_⊕_, _⊗_}
 use Rattle.gf256.proofs.Ring.{add-zero, zero-add, mul-zero, one-mul}
 use Rattle.algebra.specs.Pick.{pick}
 use Rattle.algebra.specs.Weight.{weight}
 use Rattle.strips.specs.Strips.{addedScaled}
+use Rattle.strips.proofs.Added.{added-length}
 use Rattle.document.specs.declared.Profile.{Profile}
 use Rattle.document.specs.Bytes.{bytes, byte, number}
 use Rattle.document.specs.Places.{place}
@@ -35,10 +36,6 @@ module _ (k : ℕ) where
   module _ (f row j : ℕ) (x : List ℕ) where
     abbrev after : List ℕ
     after = addedScaled f (row * k) (dataWeights k j) x
-
-    pub weights-added-length : length after ≡ length x
-    unfolding addedScaled
-    weights-added-length = patched-length (row * k) (length (dataWeights k j)) _ x
 
     -- each entry is given its weight, which is 0 in the other rows
     pub weights-added : (r q : ℕ) → q < k → r * k + q < length x
@@ -89,10 +86,10 @@ module _ (p : Profile) (j i : ℕ) where
       f = number (factorAt p i l)
 
       once : length first ≡ 80
-      once = weights-added-length k 1 i j (replicate 80 0)
+      once = added-length 1 (i * k) (dataWeights k j) (replicate 80 0)
 
       size : length (addedScaled f (l * k) (dataWeights k other) first) ≡ 80
-      size = weights-added-length k f l other first ∙ once
+      size = added-length f (l * k) (dataWeights k other) first ∙ once
 
       by-digits : (r q : ℕ) → q < k → r * k + q < 80
           → getD (addedScaled f (l * k) (dataWeights k other) first) (r * k + q) 0

@@ -10,7 +10,7 @@ ghost use Rattle.document.specs.Profile.{Accepted};
 ghost use Rattle.document.specs.Places.{Within};
 ghost use Rattle.coefficients.specs.Weights.{Different, Outside, weightsOf};
 ghost use Rattle.coefficients.specs.Weights.{differencesOf, denominatorOf, denominatorsOf, Divisors, weightsFrom};
-ghost use Rattle.coefficients.specs.Data.{dataDenominators, dataWeights, weightTable, coefficientLine};
+ghost use Rattle.coefficients.specs.Data.{dataDenominators, dataWeights, nodeWeights, weightTable, coefficientLine};
 use document::Place;
 use document::Profile;
 
@@ -153,11 +153,10 @@ pub fn data_weights(denominators: &[u8], j: usize, out: &mut [u8])
     }
 }
 
-// The weights of the data nodes at all nodes, node after node. They do not depend on what is read: computed once, they
-// serve every square of a survey.
-pub fn weight_table(p: Profile, out: &mut [u8])
+// The weights of the data nodes at all nodes, node after node.
+fn put_weights(p: Profile, out: &mut [u8])
     requires { ⌜ Accepted p × (length (now out) ≡ p .n * p .k) ⌝ }
-    ensures { λ _. ⌜ now (out .exit) ≡ weightTable p ⌝ }
+    ensures { λ _. ⌜ now (out .exit) ≡ nodeWeights p ⌝ }
 {
     let k = p.k;
     let n = p.n;
@@ -170,6 +169,17 @@ pub fn weight_table(p: Profile, out: &mut [u8])
         data_weights(&denominators[..k], j, &mut out[from..end]);
         j += 1;
     }
+}
+
+// A table of them. They do not depend on what is read: computed once, they serve every square of a survey.
+pub fn weight_table(p: Profile) -> [u8; 576]
+    requires { ⌜ Accepted p ⌝ }
+    ensures { λ r. ⌜ r ≡ weightTable p ⌝ }
+{
+    let width = p.n * p.k;
+    let mut table = [0u8; 576];
+    put_weights(p, &mut table[..width]);
+    table
 }
 
 // Adds to a line, in one row, f times the weights of the data nodes at node j.

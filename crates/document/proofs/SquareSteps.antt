@@ -25,7 +25,8 @@ use Rattle.algebra.proofs.Elimination.{multiplier-at, multiplier-off}
 use Rattle.strips.specs.Strips.{addedScaled}
 use Rattle.square.specs.declared.Line.{Line}
 use Rattle.square.specs.Steps.{noLine, lineAt, entry, stepped, lifted, multiplierAt, unitLine, unitSquare}
-use Rattle.square.proofs.Steps.{added-length, added-at, added-none, stepped-length, stepped-at, stepped-rest}
+use Rattle.strips.proofs.Added.{added-length, added-at, added-none}
+use Rattle.square.proofs.Steps.{stepped-length, stepped-at, stepped-rest}
 use Rattle.document.specs.Bytes.{bytes, Byte, byte}
 use Rattle.document.proofs.Bytes.{byte-zero, byte-one, byte-add, byte-mul, byte-inv, byte-ne}
 
@@ -135,7 +136,7 @@ added-small f ys xs small j = go (decLt j (length xs))
     go : Dec (j < length xs) → getD (addedScaled f 0 ys xs) j 0 < 256
     go (yes h) = rw (added-at f ys xs j h) (add-lt (small j) (mul-lt f (getD ys j 0)))
     go (no h) =
-        let short : length (addedScaled f 0 ys xs) ≤ j = omega (arith, added-length f ys xs) in
+        let short : length (addedScaled f 0 ys xs) ≤ j = omega (arith, added-length f 0 ys xs) in
         rw (List·getD-eq-default (addedScaled f 0 ys xs) 0 short) (omega arith)
 
 -- b comes from s by adding c i times line p to each line i below m.

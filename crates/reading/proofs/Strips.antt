@@ -12,10 +12,9 @@ use Rattle.gf256.specs.Field.{_⊕_, _⊗_}
 use Rattle.gf256.proofs.Ring.{mul-lt}
 use Rattle.algebra.specs.Sum.{sum}
 use Rattle.strips.specs.Strips.{addedScaled, stripAt}
-use Rattle.strips.proofs.Added.{added-listed}
+use Rattle.strips.proofs.Added.{added-none, added-listed}
 use Rattle.square.specs.declared.Line.{Line}
 use Rattle.square.specs.Steps.{lineAt}
-use Rattle.square.proofs.Steps.{added-none}
 use Rattle.document.specs.declared.Profile.{Profile}
 use Rattle.document.specs.Places.{place}
 use Rattle.document.specs.Encoding.{laidOut}

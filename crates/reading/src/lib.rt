@@ -137,10 +137,8 @@ fn eliminate(p: Profile, nodes: &[u8]) -> Eliminated
     ensures { λ r. ⌜ r ≡ verdictAndLines (paddedEnd p (now (nodes .entry))) ⌝ }
 {
     let count = p.k * p.a;
-    let width = p.n * p.k;
-    let mut table = [0u8; 576];
-    coefficients::weight_table(p, &mut table[..width]);
-    let s = coefficient_square(p, &table[..width], nodes);
+    let table = coefficients::weight_table(p);
+    let s = coefficient_square(p, &table, nodes);
     square::invert(s, count, count)
 }
 

@@ -25,16 +25,16 @@ use Rattle.document.specs.declared.Node.{Node}
 use Rattle.document.specs.Encoding.{factorAt}
 use Rattle.document.specs.Bytes.{bytes, byte, number}
 use Rattle.document.proofs.Bytes.{number-zero, number-add, number-mul, byte-number, byte-right}
-use Rattle.rebuild.specs.Rows.{memberAt, ownScaleAt, coefficientAt, coefficientsOf}
-use Rattle.rebuild.specs.Rows.{ownFrom, sumFrom, rowFrom}
+use Rattle.rebuild.specs.Rows.{memberAt, ownScaleAt, foldedCoefficientAt, coefficientsOf}
+use Rattle.rebuild.specs.Rows.{ownFrom, foldedSum, rowFrom}
 
 module _ (p : Profile) (f : Node) (i at : ℕ) where
   open Profile p using (k, a as A, s as S)
 
   module _ (cs src : List ℕ) where
     -- the sum alone
-    summed : combinationOf cs src ((A - 1) * S) S S ≡ listed S (λ b. number (sumFrom p cs src b))
-    unfolding combinationOf sumFrom
+    summed : combinationOf cs src ((A - 1) * S) S S ≡ listed S (λ b. number (foldedSum p cs src b))
+    unfolding combinationOf foldedSum
     summed = listed-ext S _ _ (λ b h. sum-bytes cs src ((A - 1) * S + b) S)
 
     -- in row c it is the row
@@ -46,7 +46,7 @@ module _ (p : Profile) (f : Node) (i at : ℕ) where
         ∙ listed-ext S _ _
         (λ b h. sym
         (number-add _ _
-        ∙ ap (λ (o : ℕ). o ⊕ number (sumFrom p cs src b))
+        ∙ ap (λ (o : ℕ). o ⊕ number (foldedSum p cs src b))
         (ap number (pick-yes (ℕ-discrete i (f .0 % A)) _ _ e) ∙ number-zero)
         ∙ zero-add _))
 
@@ -58,13 +58,13 @@ module _ (p : Profile) (f : Node) (i at : ℕ) where
     row-other {c} {x} {y} same strip scaled d =
         ap₂ (λ (l m : List ℕ). addedScaled c 0 l m) strip (same ∙ summed)
         ∙ ap (λ (z : ℕ). addedScaled z 0 (listed S (λ b. getD src (at * S + b) 0))
-        (listed S (λ b. number (sumFrom p cs src b)))) scaled
+        (listed S (λ b. number (foldedSum p cs src b)))) scaled
         ∙ added-listed (number (ownScaleAt p f i)) S (λ b. getD src (at * S + b) 0)
-        (λ b. number (sumFrom p cs src b))
+        (λ b. number (foldedSum p cs src b))
         ∙ listed-ext S _ _
         (λ b h. sym
         (number-add _ _
-        ∙ ap (λ (o : ℕ). o ⊕ number (sumFrom p cs src b))
+        ∙ ap (λ (o : ℕ). o ⊕ number (foldedSum p cs src b))
         (ap number (pick-no (ℕ-discrete i (f .0 % A)) _ _ d) ∙ number-mul _ _ ∙ byte-right _ _)
         ∙ add-comm _ _))
 
@@ -87,21 +87,21 @@ module _ (p : Profile) (f : Node) (i at : ℕ) where
 
     sum-byte : ((q : ℕ) → q < k
         → byte (getD src ((A - 1) * S + b + q * S) 0) ≡ folded bytes A (factorAt p) (f .0) s x q)
-        → sumFrom p (coefficientsOf p f nodes i) src b
-        ≡ sum bytes k (λ q. bytes .mul (folded bytes A (factorAt p) (f .0) s x q) (coefficientAt p f nodes i q))
-    unfolding sumFrom coefficientsOf
+        → foldedSum p (coefficientsOf p f nodes i) src b
+        ≡ sum bytes k (λ q. bytes .mul (folded bytes A (factorAt p) (f .0) s x q) (foldedCoefficientAt p f nodes i q))
+    unfolding foldedSum coefficientsOf
     sum-byte h =
         ap (λ (m : ℕ). sum bytes m (λ q. bytes .mul (byte (getD src ((A - 1) * S + b + q * S) 0))
-        (byte (getD (listed k (λ q. number (coefficientAt p f nodes i q))) q 0))))
-        (listed-length k (λ q. number (coefficientAt p f nodes i q)))
+        (byte (getD (listed k (λ q. number (foldedCoefficientAt p f nodes i q))) q 0))))
+        (listed-length k (λ q. number (foldedCoefficientAt p f nodes i q)))
         ∙ sum-ext bytes k
         (λ q l. ap₂ (bytes .mul) (h q l)
-        (ap byte (listed-at k (λ q. number (coefficientAt p f nodes i q)) q 0 l) ∙ byte-number _))
+        (ap byte (listed-at k (λ q. number (foldedCoefficientAt p f nodes i q)) q 0 l) ∙ byte-number _))
 
     row-byte : (i ≢ f .0 % A → byte (getD src (at * S + b) 0) ≡ x (f .0 % A) (memberAt p f i))
         → ((q : ℕ) → q < k
         → byte (getD src ((A - 1) * S + b + q * S) 0) ≡ folded bytes A (factorAt p) (f .0) s x q)
-        → bytes .add (ownFrom p f i at src b) (sumFrom p (coefficientsOf p f nodes i) src b)
+        → bytes .add (ownFrom p f i at src b) (foldedSum p (coefficientsOf p f nodes i) src b)
         ≡ rebuiltAt bytes A k byte (factorAt p) (f .0) s x i
     row-byte h g =
         ap₂ (bytes .add) (own-byte h) (sum-byte g) ∙ sym (rebuilt-sum bytes A k byte (factorAt p) (f .0) s x i)

@@ -6,11 +6,11 @@
 -- determinantsOf p f nodes    : for each chosen node the determinant at its local column
 -- ownScaleAt p f i            : by what row c of the other node i of f's group is multiplied
 -- scaleAt p f i               : by what row c is multiplied for row i
--- coefficientAt p f nodes i q : by what folded strip q is multiplied for row i
+-- foldedCoefficientAt p f nodes i q : by what folded strip q is multiplied for row i
 -- coefficientsOf p f nodes i  : the coefficients of row i, for each chosen node
 -- ownFrom p f i own src b     : what row c of the other node i of f's group, strip `own` of src, gives to byte b of
 --                               row i; 0 where i is c
--- sumFrom p cs src b          : byte b of the folded strips, each times its coefficient, added up; they stand in src
+-- foldedSum p cs src b        : byte b of the folded strips, each times its coefficient, added up; they stand in src
 --                               past the A-1 strips of f's group
 -- rowFrom p f i own cs src    : row i of the lost column, made of both
 use mathlib.Core.List.{List}
@@ -27,8 +27,8 @@ use Rattle.document.specs.declared.Node.{Node}
 use Rattle.document.specs.Bytes.{bytes, Byte, byte, number}
 use Rattle.document.specs.Encoding.{factorAt}
 
-unfoldable pub sumFrom : Profile → List ℕ → List ℕ → ℕ → Byte
-sumFrom p cs src b =
+unfoldable pub foldedSum : Profile → List ℕ → List ℕ → ℕ → Byte
+foldedSum p cs src b =
     sum bytes (length cs)
     (λ q. bytes .mul (byte (getD src ((p .a - 1) * p .s + b + q * p .s) 0)) (byte (getD cs q 0)))
 
@@ -50,15 +50,15 @@ module _ (p : Profile) (f : Node) where
   abbrev pub scaleAt : ℕ → Byte
   scaleAt i = scale bytes A (factorAt p) (f .0) i
 
-  abbrev pub coefficientAt : List ℕ → ℕ → ℕ → Byte
-  coefficientAt nodes i q = coefficient bytes A k byte (factorAt p) (f .0) (λ m. getD nodes m 0) i q
+  abbrev pub foldedCoefficientAt : List ℕ → ℕ → ℕ → Byte
+  foldedCoefficientAt nodes i q = coefficient bytes A k byte (factorAt p) (f .0) (λ m. getD nodes m 0) i q
 
   unfoldable pub coefficientsOf : List ℕ → ℕ → List ℕ
-  coefficientsOf nodes i = listed k (λ q. number (coefficientAt nodes i q))
+  coefficientsOf nodes i = listed k (λ q. number (foldedCoefficientAt nodes i q))
 
   unfoldable pub ownFrom : ℕ → ℕ → List ℕ → ℕ → Byte
   ownFrom i own src b =
       pick (ℕ-discrete i (f .0 % A)) (bytes .𝟘) (bytes .mul (ownScaleAt i) (byte (getD src (own * S + b) 0)))
 
   unfoldable pub rowFrom : ℕ → ℕ → List ℕ → List ℕ → List ℕ
-  rowFrom i own cs src = listed S (λ b. number (bytes .add (ownFrom i own src b) (sumFrom p cs src b)))
+  rowFrom i own cs src = listed S (λ b. number (bytes .add (ownFrom i own src b) (foldedSum p cs src b)))

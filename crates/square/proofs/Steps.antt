@@ -4,18 +4,15 @@ use mathlib.Core.Bool.{cond}
 use mathlib.Core.List.{List}
 use Prim.Native.Nat.{ℕ, zero, suc, _+_, _-_, _≤_, _<_}
 use native.Mathlib.Numerals.{add-one}
-use native.Mathlib.Decide.{ℕ-discrete, decLt}
-use native.Mathlib.Nat.{not-suc-le-zero, zero-add}
+use native.Mathlib.Decide.{ℕ-discrete}
+use native.Mathlib.Nat.{not-suc-le-zero}
 use native.Mathlib.Omega.{arith}
 use lib.Dec.{eqb}
-use lib.ListN.{length, getD, set, replicate, length-set, length-replicate, getD-replicate, List·getD-eq-default}
+use lib.ListN.{length, getD, set, replicate, length-set, length-replicate, getD-replicate}
 use lib.Seq.{ext-getD, getD-set-same, getD-set-other, set-getD}
 use borrow.Author.Tests.{eq-eqb, ne-eqb}
 use Rattle.lists.specs.Listed.{listed}
 use Rattle.lists.proofs.Listed.{listed-length, listed-at}
-use Rattle.lists.proofs.Patched.{patched-length, patched-in, patched-out}
-use Rattle.gf256.specs.Field.{_⊕_, _⊗_}
-use Rattle.gf256.proofs.Ring.{add-zero, mul-zero, zero-mul}
 use Rattle.strips.specs.Strips.{addedScaled}
 use Rattle.square.specs.declared.Line.{Line}
 use Rattle.square.specs.Steps.{noLine, lineAt, filled, stepped, unitLine}
@@ -95,31 +92,6 @@ unit-line-set m r h =
     let k : i < m = omega (arith, size) in
     set-at zeros r 1 i (omega (arith, length-replicate {A = ℕ} m 0))
     ∙ ap (λ (x : ℕ). cond (eqb i r) 1 x) (getD-replicate m i 0 0 k) ∙ sym (listed-at m _ i 0 k))
-
--- ---- the line x + f·y
-module _ (f : ℕ) (ys xs : List ℕ) where
-  pub added-length : length (addedScaled f 0 ys xs) ≡ length xs
-  unfolding addedScaled
-  added-length = patched-length 0 (length ys) _ xs
-
-  pub added-at : (j : ℕ) → j < length xs → getD (addedScaled f 0 ys xs) j 0 ≡ getD xs j 0 ⊕ (f ⊗ getD ys j 0)
-  unfolding addedScaled
-  added-at j h = go (decLt j (length ys))
-    where
-      go : Dec (j < length ys) → getD (addedScaled f 0 ys xs) j 0 ≡ getD xs j 0 ⊕ (f ⊗ getD ys j 0)
-      go (yes k) =
-          let z : 0 + j ≡ j = zero-add j in
-          rw z at (patched-in 0 (length ys) (λ b. getD xs (0 + b) 0 ⊕ (f ⊗ getD ys b 0)) xs j k (omega arith))
-      go (no k) =
-          let short : length ys ≤ j = omega arith in
-          patched-out 0 (length ys) _ xs j (λ l q. omega arith)
-          ∙ sym (rw (List·getD-eq-default ys 0 short, mul-zero, add-zero))
-
-  -- no multiple of y: the line stays
-  pub added-none : f ≡ 0 → addedScaled f 0 ys xs ≡ xs
-  added-none e =
-      ext-getD 0 (addedScaled f 0 ys xs) xs added-length
-      (λ j h. added-at j (omega (arith, added-length)) ∙ rw (e, zero-mul, add-zero))
 
 -- ---- a step of the square
 module _ (c : ℕ → ℕ) (p : ℕ) (s : List Line) (rows : ℕ) where

@@ -1,16 +1,17 @@
--- The laws of strips added: once, and a multiple of a strip to another, byte by byte.
+-- The laws of strips added: once, a multiple of a strip, and a multiple of a strip to another, byte by byte.
 use mathlib.Core.Path.{_≡_, sym, ap, ap₂, _∙_}
 use mathlib.Core.List.{List}
-use Prim.Native.Nat.{ℕ, _+_, _<_}
+use Prim.Native.Nat.{ℕ, _+_, _≤_, _<_}
 use native.Mathlib.Nat.{zero-add}
+use native.Mathlib.Decide.{decLt}
 use native.Mathlib.Omega.{arith}
-use lib.ListN.{length, getD}
+use lib.ListN.{length, getD, List·getD-eq-default}
 use lib.Seq.{ext-getD}
 use Rattle.lists.specs.Listed.{listed, patched}
 use Rattle.lists.proofs.Listed.{listed-length, listed-at}
-use Rattle.lists.proofs.Patched.{patched-ext, patched-length, patched-in}
+use Rattle.lists.proofs.Patched.{patched-ext, patched-length, patched-in, patched-out}
 use Rattle.gf256.specs.Field.{_⊕_, _⊗_}
-use Rattle.gf256.proofs.Ring.{one-mul}
+use Rattle.gf256.proofs.Ring.{add-zero, mul-zero, zero-mul, one-mul}
 use Rattle.strips.specs.Strips.{stripAt, addedScaled, addedStrip}
 
 -- adding once is adding with the factor 1
@@ -20,6 +21,31 @@ unfolding addedStrip addedScaled
 added-once at src x small =
     patched-ext at (length src) _ _ x
     (λ b l. ap (λ (v : ℕ). getD x (at + b) 0 ⊕ v) (sym (one-mul (getD src b 0) (small b))))
+
+pub added-length : (f at : ℕ) (ys xs : List ℕ) → length (addedScaled f at ys xs) ≡ length xs
+unfolding addedScaled
+added-length f at ys xs = patched-length at (length ys) _ xs
+
+-- f·y added to a list from its first entry on
+module _ (f : ℕ) (ys xs : List ℕ) where
+  pub added-at : (j : ℕ) → j < length xs → getD (addedScaled f 0 ys xs) j 0 ≡ getD xs j 0 ⊕ (f ⊗ getD ys j 0)
+  unfolding addedScaled
+  added-at j h = go (decLt j (length ys))
+    where
+      go : Dec (j < length ys) → getD (addedScaled f 0 ys xs) j 0 ≡ getD xs j 0 ⊕ (f ⊗ getD ys j 0)
+      go (yes k) =
+          let z : 0 + j ≡ j = zero-add j in
+          rw z at (patched-in 0 (length ys) (λ b. getD xs (0 + b) 0 ⊕ (f ⊗ getD ys b 0)) xs j k (omega arith))
+      go (no k) =
+          let short : length ys ≤ j = omega arith in
+          patched-out 0 (length ys) _ xs j (λ l q. omega arith)
+          ∙ sym (rw (List·getD-eq-default ys 0 short, mul-zero, add-zero))
+
+  -- no multiple of y: the list stays
+  pub added-none : f ≡ 0 → addedScaled f 0 ys xs ≡ xs
+  added-none e =
+      ext-getD 0 (addedScaled f 0 ys xs) xs (added-length f 0 ys xs)
+      (λ j h. added-at j (omega (arith, added-length f 0 ys xs)) ∙ rw (e, zero-mul, add-zero))
 
 -- a multiple of a strip added to a whole list of its length
 module _ (c n : ℕ) (f g : ℕ → ℕ) where

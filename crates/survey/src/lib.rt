@@ -67,11 +67,9 @@ fn first_failing(p: Profile, set: &mut [u8], start: usize, end: usize) -> usize
     if start == end {
         return end;
     }
-    let width = p.n * p.k;
-    let mut table = [0u8; 576];
-    coefficients::weight_table(p, &mut table[..width]);
+    let table = coefficients::weight_table(p);
     ksets::unrank(set, p.n, start);
-    look(p, &table[..width], set, start, end)
+    look(p, &table, set, start, end)
 }
 
 // The smaller of two numbers.

@@ -58,7 +58,7 @@ part-add-scaled-start c = search needs
 part-add-scaled-end : tie.Need-part-add-scaled-end
 part-add-scaled-end c =
     let s = c .before .before .before in
-    omega (arith, inside s, ap length (s .pre .1), table-length (s .args .p))
+    omega (arith, few s, ap length (s .pre .1), table-length (s .args .p) (table-bound (s .args .p) (s .pre .0 .0)))
 
 add-scaled-requires : tie.Need-add-scaled-requires
 add-scaled-requires c κs =

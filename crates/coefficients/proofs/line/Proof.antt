@@ -6,13 +6,14 @@ use native.Mathlib.Omega.{arith}
 use borrow.Author.Needs.{needs}
 use lib.ListN.{length, replicate}
 use Rattle.strips.specs.Strips.{addedScaled}
+use Rattle.strips.proofs.Added.{added-length}
 use Rattle.document.specs.declared.Place.{Place}
 use Rattle.document.specs.Bytes.{number}
 use Rattle.document.specs.Places.{partnerOf, Within}
 use Rattle.document.specs.Encoding.{factorAt}
 use Rattle.document.proofs.Bounds.{partner-within}
 use Rattle.coefficients.specs.Data.{dataWeights}
-use Rattle.coefficients.proofs.Entries.{weights-added-length, line-made}
+use Rattle.coefficients.proofs.Entries.{line-made}
 use Rattle.coefficients.proofs.line.Statement.{statement}
 use Rattle.coefficients.proofs.line.Tie as tie
 
@@ -44,7 +45,7 @@ add-weights-requires-2 c κs =
         w .row,
         w .node,
         ap length (a .add-weights .ensures)
-            ∙ weights-added-length (p .k) 1 (s .args .q .row .0) (s .args .q .node .0) (replicate 80 0),
+            ∙ added-length 1 (s .args .q .row .0 * p .k) (dataWeights (p .k) (s .args .q .node .0)) (replicate 80 0),
       ),
       s .pre .2,
     )

@@ -12,7 +12,8 @@ use Rattle.gf256.proofs.Ring.{zero-add}
 use Rattle.strips.specs.Strips.{addedScaled}
 use Rattle.square.specs.declared.Line.{Line}
 use Rattle.square.specs.Steps.{entry, filled, multiplierAt}
-use Rattle.square.proofs.Steps.{filled-at, set-at, added-length, added-at}
+use Rattle.strips.proofs.Added.{added-length, added-at}
+use Rattle.square.proofs.Steps.{filled-at, set-at}
 use borrow.Author.Needs.{needs}
 use Rattle.square.proofs.multipliers.Statement.{statement}
 use Rattle.square.proofs.multipliers.Tie as tie
@@ -62,7 +63,7 @@ module _ (s : List Line) (r j rows m : ℕ) (h : r < rows) (k : rows ≤ m) wher
       let other : getD (addedScaled v 0 es zeros) i 0 ≡ v ⊗ entry s i j =
       added-at v es zeros i (omega (arith, size))
       ∙ rw (getD-replicate {A = ℕ} m i 0 0 (omega arith), zero-add, same i l) in
-      set-at (addedScaled v 0 es zeros) r (1 ⊕ v) i (omega (arith, size, added-length v es zeros))
+      set-at (addedScaled v 0 es zeros) r (1 ⊕ v) i (omega (arith, size, added-length v 0 es zeros))
       ∙ ap₂ (λ (v x : ℕ). cond (eqb i r) (1 ⊕ v) x) one (other ∙ ap (λ (v : ℕ). v ⊗ entry s i j) one)
 
 returns : tie.Need-returns

@@ -9,7 +9,8 @@ use lib.ListN.{getD, set}
 use Rattle.strips.specs.Strips.{addedScaled}
 use Rattle.square.specs.declared.Line.{Line}
 use Rattle.square.specs.Steps.{noLine, lineAt, filled, stepped}
-use Rattle.square.proofs.Steps.{filled-none, filled-next, filled-rest, filled-skip, added-none}
+use Rattle.strips.proofs.Added.{added-none}
+use Rattle.square.proofs.Steps.{filled-none, filled-next, filled-rest, filled-skip}
 use borrow.Author.Needs.{needs}
 use Rattle.square.proofs.step.Statement.{statement}
 use Rattle.square.proofs.step.Tie as tie
