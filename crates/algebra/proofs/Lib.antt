@@ -11,3 +11,4 @@ pub mod Rows
 pub mod Needed
 pub mod Square
 pub mod Elimination
+pub mod Unpaired

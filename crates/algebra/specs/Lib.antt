@@ -9,3 +9,4 @@ pub mod Encoding
 pub mod Rebuild
 pub mod Rows
 pub mod Square
+pub mod Unpaired

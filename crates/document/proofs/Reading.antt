@@ -59,7 +59,7 @@ infixl 70 _⊗_
 open Field bytes using (𝟘, mul as _⊗_)
 
 -- The entries of a rising list lie below its bound.
-rising-below : {n b k : ℕ} {xs : List ℕ} → RisingFrom n b k xs → (m : ℕ) → m < k → getD xs m 0 < n
+pub rising-below : {n b k : ℕ} {xs : List ℕ} → RisingFrom n b k xs → (m : ℕ) → m < k → getD xs m 0 < n
 rising-below none m h = absurd (omega arith)
 rising-below (next low high r) zero h = high
 rising-below (next low high r) (suc m) h = rising-below r m (omega arith)
@@ -82,7 +82,7 @@ module _ (p : Profile) where
 
   -- ---- data, symbol by symbol
   -- any symbols laid out are data
-  laid-data : (f : ℕ → Place → Byte) → Data p (laidOut p k f)
+  pub laid-data : (f : ℕ → Place → Byte) → Data p (laidOut p k f)
   laid-data f = record { size = laid-length p k f; bytes-only = laid-small p k f }
 
   -- a symbol of data that are given by its number
@@ -94,7 +94,7 @@ module _ (p : Profile) where
       ∙ ap (f b) (div-add-mod' e k)
 
   -- data with the same symbols are equal
-  data-ext : (d c : List ℕ) → Data p d → Data p c
+  pub data-ext : (d c : List ℕ) → Data p d → Data p c
       → ((b e : ℕ) → b < S → e < k * A → byteAt p d b (dataPlace p e) ≡ byteAt p c b (dataPlace p e)) → d ≡ c
   data-ext d c D C h =
       laid-bytes p k d (D .size) (D .bytes-only) ∙ laid-ext p k (byteAt p d) (byteAt p c) at
@@ -107,18 +107,18 @@ module _ (p : Profile) where
   module _ (nodes : List ℕ) where
     -- ---- the columns, joined
     -- byte b of strip z
-    joined-byte : (y : List ℕ) (z b : ℕ) → z < k * A → b < S
+    pub joined-byte : (y : List ℕ) (z b : ℕ) → z < k * A → b < S
         → byte (getD (joinedColumns p nodes y) (z * S + b) 0) ≡ byteAt p y b (joinedPlace p nodes z)
     unfolding joinedColumns
     joined-byte y z b h l = ap byte (laid-strip p k _ z b h l) ∙ byte-number (byteAt p y b (joinedPlace p nodes z))
 
     -- they are kAS bytes, as data are
-    joined-data : (y : List ℕ) → Data p (joinedColumns p nodes y)
+    pub joined-data : (y : List ℕ) → Data p (joinedColumns p nodes y)
     unfolding joinedColumns
     joined-data y = laid-data _
 
     -- kAS bytes that are those of the strips are the columns
-    joined-only : (y x : List ℕ) → Data p x
+    pub joined-only : (y x : List ℕ) → Data p x
         → ((z b : ℕ) → z < k * A → b < S → byteAt p y b (joinedPlace p nodes z) ≡ byte (getD x (z * S + b) 0))
         → joinedColumns p nodes y ≡ x
     unfolding joinedColumns

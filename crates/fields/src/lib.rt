@@ -1,6 +1,8 @@
 // Fields of a tag, a length and content: written and compared.
 ghost use mathlib.Core.Path.{_≡_};
-ghost use Prim.Native.Nat.{_+_, _≤_};
+ghost use mathlib.Core.Bool.{cond};
+ghost use mathlib.Core.List.{[], _∷_};
+ghost use Prim.Native.Nat.{_+_, _≤_, _<_};
 ghost use lib.ListN.{length};
 ghost use Rattle.lists.specs.Put.{slice, same, Wrote};
 ghost use Rattle.fields.specs.Fields.{twoBytes, fourBytes, opening, openingLength};
@@ -38,6 +40,18 @@ pub fn put_bytes(out: &mut [u8], at: usize, src: &[u8]) -> usize
         i += 1;
     }
     at + i
+}
+
+// Writes a number as one byte if it is wanted, and returns the position after it.
+pub fn put_if(out: &mut [u8], at: usize, v: usize, wanted: bool) -> usize
+    requires { ⌜ (at < length (now out)) × (v < 256) ⌝ }
+    ensures { λ r. ⌜ Wrote (now (out .entry)) at (cond wanted (v ∷ []) []) r (now (out .exit)) ⌝ }
+{
+    if wanted {
+        out[at] = v as u8;
+        return at + 1;
+    }
+    at
 }
 
 // Writes the tag and the length that a field opens with, and returns the position after them.

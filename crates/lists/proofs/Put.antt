@@ -77,3 +77,10 @@ wrote-then {d} {e} {f} {u} {v} {at} {m} {n} h p q = record {
 -- another name for what was written
 pub wrote-same : {d e u v : List ℕ} {at n : ℕ} → u ≡ v → Wrote d at u n e → Wrote d at v n e
 wrote-same {d} {e} {u} {v} {at} {n} p w = subst (λ (l : List ℕ). Wrote d at l n e) p w
+
+-- what was written from the front on stands there
+pub wrote-front : {d e u : List ℕ} {n : ℕ} → Wrote d 0 u n e → (n ≡ length u) × (take n e ≡ u)
+unfolding put
+wrote-front {d} {e} {u} {n} w =
+    let size : n ≡ length u = omega (arith, w .ends) in
+    (size, ap (take n) (w .holds) ∙ take-at u (drop (0 + length u) d) n (sym size))

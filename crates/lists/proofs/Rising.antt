@@ -5,12 +5,17 @@ use mathlib.Core.List.{List, [], _∷_, _++_}
 use Prim.Native.Nat.{ℕ, zero, suc, _+_, _-_, _*_, _/_, _%_, _≤_, _<_}
 use native.Mathlib.Nat.{add-zero, add-suc, zero-mul, suc-mul, add-mul, one-mul, not-suc-le-zero}
 use native.Mathlib.Decide.{ℕ-discrete}
+use native.Mathlib.Numerals.{add-one}
 use native.Mathlib.Omega.{arith}
 use lib.Arith.{digits-div, digits-mod}
 use lib.Dec.{eqb}
 use lib.ListN.{length, length-append}
 use borrow.Author.Tests.{eq-eqb, ne-eqb}
 use Rattle.lists.specs.Listed.{rising}
+
+pub rising-next : (j : ℕ) (P : ℕ → Bool) → rising j P ++ cond (P j) (j ∷ []) [] ≡ rising (j + 1) P
+unfolding rising
+rising-next j P = rw add-one
 
 pub rising-ext : (n : ℕ) (P Q : ℕ → Bool) → ((e : ℕ) → e < n → P e ≡ Q e) → rising n P ≡ rising n Q
 unfolding rising

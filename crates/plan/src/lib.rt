@@ -1,7 +1,6 @@
 // The plan: the places that are read to rebuild a lost node.
 ghost use mathlib.Core.Path.{_≡_};
-ghost use mathlib.Core.Bool.{cond};
-ghost use mathlib.Core.List.{[], _∷_};
+ghost use mathlib.Core.List.{_∷_, []};
 ghost use Prim.Native.Nat.{ℕ, _+_, _<_, _≤_};
 ghost use lib.ListN.{length, getD, take};
 ghost use Rattle.lists.specs.Listed.{rising};
@@ -46,18 +45,6 @@ pub fn in_step(step: Step, p: Profile, f: Node, j: usize) -> bool
     }
 }
 
-// Writes the node's number if it is wanted, and returns the position after it.
-fn list_node(out: &mut [u8], at: usize, j: usize, wanted: bool) -> usize
-    requires { ⌜ (at < length (now out)) × (j < 256) ⌝ }
-    ensures { λ r. ⌜ Wrote (now (out .entry)) at (cond wanted (j ∷ []) []) r (now (out .exit)) ⌝ }
-{
-    if wanted {
-        out[at] = j as u8;
-        return at + 1;
-    }
-    at
-}
-
 // Writes the numbers of the nodes that the step goes over.
 fn list_step(out: &mut [u8], at: usize, p: Profile, f: Node, step: Step) -> usize
     requires { ⌜ Accepted p × (at + p .n ≤ length (now out)) ⌝ }
@@ -68,7 +55,7 @@ fn list_step(out: &mut [u8], at: usize, p: Profile, f: Node, step: Step) -> usiz
     let mut j: usize = 0;
     while j < n {
         let wanted = in_step(step, p, f, j);
-        next = list_node(out, next, j, wanted);
+        next = fields::put_if(out, next, j, wanted);
         j += 1;
     }
     next

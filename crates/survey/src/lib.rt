@@ -1,5 +1,4 @@
-// The survey of a profile: the sets of k nodes one after the other, each decided by elimination of the coefficients
-// alone.
+// The survey of a profile: the sets of k nodes one after the other, each decided by elimination alone.
 ghost use mathlib.Core.Path.{_≡_};
 ghost use Prim.Native.Nat.{_+_, _≤_, _<_, min};
 ghost use lib.ListN.{length};
@@ -7,7 +6,6 @@ ghost use Rattle.ksets.specs.Sets.{sets, setAt, Rising};
 ghost use Rattle.document.specs.Profile.{Accepted};
 ghost use Rattle.document.specs.Reading.{ambiguous};
 ghost use Rattle.document.specs.Survey.{resultOf, surveyOf};
-ghost use Rattle.coefficients.specs.Data.{weightTable};
 ghost use Rattle.survey.specs.Steps.{Found};
 use document::Checked;
 use document::Numbers;
@@ -16,13 +14,16 @@ use document::Refusal;
 use document::Surveyed;
 use square::Verdict;
 
-// Whether a set fails.
-fn fails(p: Profile, table: &[u8], set: &[u8]) -> bool
-    requires { ⌜ Accepted p × Rising (p .n) (p .k) (now set) × (now table ≡ weightTable p) ⌝ }
+// Whether a set fails: whether the system of its unpaired strips has no inverse.
+fn fails(p: Profile, set: &[u8]) -> bool
+    requires { ⌜ Accepted p × Rising (p .n) (p .k) (now set) ⌝ }
     ensures { λ r. ⌜ r ≡ ambiguous p (now (set .entry)) ⌝ }
 {
-    let count = p.k * p.a;
-    let s = reading::coefficient_square(p, table, set);
+    let positions = unpaired::positions(set);
+    let mut strips = [0u8; 80];
+    let count = unpaired::list_unpaired(&mut strips, p, set, &positions);
+    let table = unpaired::weight_table(p, set, &positions);
+    let s = unpaired::reduced_square(p, set, &table, &strips[..count]);
     let verdict = square::judge(s, count, count);
     match verdict {
         Verdict::Singular(_) => true,
@@ -43,14 +44,14 @@ fn go_on(set: &mut [u8], n: usize, at: usize, end: usize)
 
 // The first failing position from `start` on, before `end`; `end` if there is none. The set goes from position to
 // position and stays at the failing one.
-fn look(p: Profile, table: &[u8], set: &mut [u8], start: usize, end: usize) -> usize
-    requires { ⌜ Accepted p × (now table ≡ weightTable p) × (length (now set) ≡ p .k) ⌝ }
+fn look(p: Profile, set: &mut [u8], start: usize, end: usize) -> usize
+    requires { ⌜ Accepted p × (length (now set) ≡ p .k) ⌝ }
     requires { ⌜ (start < end) × (end ≤ sets (p .n) (p .k)) × (now set ≡ setAt 0 (p .n) (p .k) start) ⌝ }
     ensures { λ r. ⌜ Found p start end r (now (set .exit)) ⌝ }
 {
     let mut at = start;
     while at < end {
-        if fails(p, table, set) {
+        if fails(p, set) {
             return at;
         }
         go_on(set, p.n, at, end);
@@ -59,7 +60,7 @@ fn look(p: Profile, table: &[u8], set: &mut [u8], start: usize, end: usize) -> u
     end
 }
 
-// The same with the set at `start` written first, and the weights of all nodes computed once.
+// The same with the set at `start` written first.
 fn first_failing(p: Profile, set: &mut [u8], start: usize, end: usize) -> usize
     requires { ⌜ Accepted p × (length (now set) ≡ p .k) × (start ≤ end) × (end ≤ sets (p .n) (p .k)) ⌝ }
     ensures { λ r. ⌜ Found p start end r (now (set .exit)) ⌝ }
@@ -67,9 +68,8 @@ fn first_failing(p: Profile, set: &mut [u8], start: usize, end: usize) -> usize
     if start == end {
         return end;
     }
-    let table = coefficients::weight_table(p);
     ksets::unrank(set, p.n, start);
-    look(p, &table, set, start, end)
+    look(p, set, start, end)
 }
 
 // The smaller of two numbers.

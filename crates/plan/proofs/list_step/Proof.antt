@@ -3,14 +3,13 @@ use mathlib.Core.Path.{_≡_, refl, ap, _∙_}
 use mathlib.Core.Bool.{Bool, cond}
 use mathlib.Core.List.{[], _∷_, _++_}
 use Prim.Native.Nat.{ℕ, _+_, _-_, _≤_, zero-le}
-use native.Mathlib.Numerals.{add-one}
 use native.Mathlib.Omega.{arith}
 use borrow.Author.Needs.{needs}
 use lib.ListN.{length}
 use Rattle.lists.specs.Listed.{rising}
 use Rattle.lists.specs.Put.{Wrote}
 use Rattle.lists.proofs.Put.{wrote-none, wrote-then, wrote-same}
-use Rattle.lists.proofs.Rising.{rising-length}
+use Rattle.lists.proofs.Rising.{rising-length, rising-next}
 use Rattle.plan.specs.Steps.{inStep}
 use Rattle.plan.proofs.list_step.Statement.{statement}
 use Rattle.plan.proofs.list_step.Tie as tie
@@ -30,8 +29,8 @@ loop-holds c = (zero-le, refl, wrote-none _ _)
 in-step-requires : tie.Need-in-step-requires Inv-loop μ-loop
 in-step-requires c κs = search needs
 
-list-node-requires : tie.Need-list-node-requires Inv-loop μ-loop
-list-node-requires c κs =
+put-if-requires : tie.Need-put-if-requires Inv-loop μ-loop
+put-if-requires c κs =
     let s = c .before .before .before .before .before in
     let l = c .before .before .before .loop in
     let few = rising-length (inStep (s .args .step) (s .args .p .a) (s .args .f)) (l .j) in
@@ -43,10 +42,6 @@ add-j c = search needs
 loop-less : tie.Need-loop-less Inv-loop μ-loop
 loop-less c = search needs
 
-next-rising : (j : ℕ) (P : ℕ → Bool) → rising j P ++ cond (P j) (j ∷ []) [] ≡ rising (j + 1) P
-unfolding rising
-next-rising j P = rw add-one
-
 loop-again : tie.Need-loop-again Inv-loop μ-loop
 loop-again c =
     let w = c .before .before in
@@ -54,11 +49,11 @@ loop-again c =
     let s = w .before .before .before .before .before .before in
     let P = inStep (s .args .step) (s .args .p .a) (s .args .f) in (
       omega arith,
-      w .list-node .kept .0 ∙ l .inv .1,
+      w .put-if .kept .0 ∙ l .inv .1,
       wrote-same
           (ap (λ (b : Bool). rising (l .j) P ++ cond b (l .j ∷ []) []) (w .before .before .in-step .ensures)
-          ∙ next-rising (l .j) P)
-          (wrote-then (omega (arith, s .pre .1)) (l .inv .2) (w .list-node .ensures)),
+          ∙ rising-next (l .j) P)
+          (wrote-then (omega (arith, s .pre .1)) (l .inv .2) (w .put-if .ensures)),
     )
 
 same-length : tie.Need-same-length Inv-loop μ-loop
@@ -79,7 +74,7 @@ list-step-spec =
     μ-loop
     loop-holds
     in-step-requires
-    list-node-requires
+    put-if-requires
     add-j
     loop-less
     loop-again

@@ -1,41 +1,86 @@
--- `survey::fails` meets its contract: the verdict on the coefficient square tells whether the set is ambiguous.
-use mathlib.Core.Path.{_≡_, sym, ap, _∙_}
+-- `survey::fails` meets its contract: the verdict on the system of the unpaired strips tells whether the set is ambiguous.
+use mathlib.Core.Path.{_≡_, sym, ap, ap₂, _∙_}
 use mathlib.Core.List.{List}
-use Prim.Native.Nat.{_*_, _≤_}
+use Prim.Native.Nat.{ℕ, _≤_}
 use native.Mathlib.Omega.{arith}
 use borrow.Author.Needs.{needs}
+use lib.ListN.{length}
+use lib.Seq.{length-take-le}
+use Rattle.ksets.proofs.Ranked.{risen-length}
 use Rattle.square.specs.declared.Line.{Line}
 use Rattle.square.specs.Steps.{unitSquare}
 use Rattle.square.specs.Elimination.{eliminated, verdictAndLines}
-use Rattle.document.proofs.Bounds.{square-bound}
-use Rattle.reading.specs.Steps.{paddedEnd}
-use Rattle.reading.proofs.Padded.{verdict-singular, verdict-regular}
+use Rattle.unpaired.specs.Unpaired.{unpairedStrips, reducedEnd}
+use Rattle.unpaired.proofs.Reduced.{few-unpaired, stuck-ambiguous, regular-clear}
 use Rattle.survey.proofs.fails.Statement.{statement}
 use Rattle.survey.proofs.fails.Tie as tie
 
-few : (c : tie.Start) → c .args .p .k * c .args .p .a ≤ 80
-few c = square-bound (c .args .p) (c .pre .0)
+positions-requires : tie.Need-positions-requires
+positions-requires c κs =
+    let s = c .before in
+    omega (arith, risen-length (s .pre .1), s .pre .0 .shape .some-parity, s .pre .0 .shape .few-nodes)
 
-mul-count : tie.Need-mul-count
-mul-count c = omega (arith, few (c .before .before .before))
+slice-aggregate-list-unpaired : tie.Need-slice-aggregate-list-unpaired
+slice-aggregate-list-unpaired c = search needs
 
-coefficient-square-requires : tie.Need-coefficient-square-requires
-coefficient-square-requires c κs = search needs
+slice-aggregate-list-unpaired-2 : tie.Need-slice-aggregate-list-unpaired-2
+slice-aggregate-list-unpaired-2 c = search needs
 
-judge-requires : tie.Need-judge-requires
-judge-requires c κs = let h = few (c .before .before .before .before) in (h, h)
+list-unpaired-requires : tie.Need-list-unpaired-requires
+list-unpaired-requires c κs = search needs
 
--- past the elimination: the verdict is that on the square of the set
-module _ (c : tie.After-judge) where
+slice-aggregate-weight-table : tie.Need-slice-aggregate-weight-table
+slice-aggregate-weight-table c = search needs
+
+weight-table-requires : tie.Need-weight-table-requires
+weight-table-requires c κs = search needs
+
+slice-aggregate-reduced-square : tie.Need-slice-aggregate-reduced-square
+slice-aggregate-reduced-square c = search needs
+
+-- past the list of the unpaired strips
+module _ (c : tie.After-list-unpaired) where
   abbrev start : tie.Start
   start = c .before .before .before .before .before
 
-  judged : c .judge .result ≡ verdictAndLines (paddedEnd (start .args .p) (start .args .set .now)) .verdict
+  few : length (unpairedStrips (start .args .p) (start .args .set .now)) ≤ 80
+  few = few-unpaired (start .args .p) (start .args .set .now) (start .pre .0) (start .pre .1)
+
+  count : c .list-unpaired .result ≤ 80
+  count = omega (arith, few, c .list-unpaired .ensures .0)
+
+array-share-prefix-strips : tie.Need-array-share-prefix-strips
+array-share-prefix-strips c =
+    let l = c .before .before .before .before in
+    omega (arith, count l, l .list-unpaired .kept .0)
+
+slice-aggregate-reduced-square-2 : tie.Need-slice-aggregate-reduced-square-2
+slice-aggregate-reduced-square-2 c = sym (length-take-le _ _ (array-share-prefix-strips (c .before)))
+
+reduced-square-requires : tie.Need-reduced-square-requires
+reduced-square-requires c κs =
+    let w = c .before .before in
+    let l = w .before .before .before in
+    let s = start l in
+    ((s .pre .0, s .pre .1, w .weight-table .ensures), l .list-unpaired .ensures .1)
+
+judge-requires : tie.Need-judge-requires
+judge-requires c κs =
+    let h = count (c .before .before .before .before .before .before) in (h, h)
+
+-- past the elimination: the verdict is that on the system of the set
+module _ (c : tie.After-judge) where
+  abbrev listed : tie.After-list-unpaired
+  listed = c .before .before .before .before .before .before .before
+
+  abbrev s : tie.Start
+  s = start listed
+
+  judged : c .judge .result ≡ verdictAndLines (reducedEnd (s .args .p) (s .args .set .now)) .verdict
   judged =
-      let p = start .args .p in
       c .judge .ensures
-      ∙ ap (λ (s : List Line). verdictAndLines (eliminated (p .k * p .a) (p .k * p .a) s (unitSquare 80)) .verdict)
-      (c .before .coefficient-square .ensures)
+      ∙ ap₂ (λ (m : ℕ) (q : List Line). verdictAndLines (eliminated m m q (unitSquare 80)) .verdict)
+      (listed .list-unpaired .ensures .0) (c .before .reduced-square .ensures)
 
 enum-told : tie.Need-enum-told
 enum-told c = search needs
@@ -46,19 +91,27 @@ enum-told-2 c = search needs
 returns : tie.Need-returns
 returns c =
     let j = c .before .before in
-    sym (verdict-singular _ (start j .pre .0) _ _ (sym (judged j) ∙ c .enum-told .given .1))
+    sym (stuck-ambiguous (s j .args .p) (s j .args .set .now) (s j .pre .0) (s j .pre .1) _ (sym (judged j) ∙ c .enum-told .given .1))
 
 returns-2 : tie.Need-returns-2
 returns-2 c =
     let j = c .before .before in
-    sym (verdict-regular _ (start j .pre .0) _ (sym (judged j) ∙ c .enum-told2 .given .1))
+    sym (regular-clear (s j .args .p) (s j .args .set .now) (s j .pre .0) (s j .pre .1) (sym (judged j) ∙ c .enum-told2 .given .1))
 
 pub fails-spec : {M : Type 1} → statement M
 fails-spec =
     tie.close
     (tie.spec
-    mul-count
-    coefficient-square-requires
+    positions-requires
+    slice-aggregate-list-unpaired
+    slice-aggregate-list-unpaired-2
+    list-unpaired-requires
+    slice-aggregate-weight-table
+    weight-table-requires
+    slice-aggregate-reduced-square
+    array-share-prefix-strips
+    slice-aggregate-reduced-square-2
+    reduced-square-requires
     judge-requires
     enum-told
     enum-told-2

@@ -21,26 +21,19 @@ returns c =
 some : (c : tie.Else1) → c .before .before .args .start < c .before .before .args .end
 some c = omega (arith, c .if1 .left, c .before .before .pre .2)
 
-weight-table-requires : tie.Need-weight-table-requires
-weight-table-requires c κs = search needs
-
 unrank-requires : tie.Need-unrank-requires
 unrank-requires c κs =
-    let e = c .before .before in
+    let e = c .before in
     let s = e .before .before in
     (s .pre .0 .shape .few-nodes, rw (s .pre .1) (omega (arith, some e, s .pre .3)))
 
-slice-aggregate-look : tie.Need-slice-aggregate-look
-slice-aggregate-look c = search needs
-
 look-requires : tie.Need-look-requires
 look-requires c κs =
-    let u = c .before .before .before .before in
-    let w = u .before .before in
-    let e = w .before in
+    let u = c .before .before .before in
+    let e = u .before .before in
     let s = e .before .before in
     let a = s .args in (
-      (s .pre .0, w .weight-table .ensures, u .unrank .kept .0 ∙ s .pre .1),
+      (s .pre .0, u .unrank .kept .0 ∙ s .pre .1),
       (
         some e,
         s .pre .3,
@@ -59,9 +52,7 @@ first-failing-spec =
     tie.close
     (tie.spec
     returns
-    weight-table-requires
     unrank-requires
-    slice-aggregate-look
     look-requires
     same-length
     returns-2)

@@ -14,22 +14,22 @@ use Rattle.survey.proofs.look.Statement.{statement}
 use Rattle.survey.proofs.look.Tie as tie
 
 abbrev Inv-loop : tie.InvT-loop
-Inv-loop p table set₀ start end at₀ set at =
+Inv-loop p set₀ start end at₀ set at =
     (at ≤ end) × (length set ≡ p .k) × (at < end → set ≡ setAt 0 (p .n) (p .k) at)
     × (firstIn (failsAt p) start (end - start) ≡ firstIn (failsAt p) at (end - at))
 
 abbrev μ-loop : tie.MeasureT-loop
-μ-loop p table set₀ start end at₀ set at = end - at
+μ-loop p set₀ start end at₀ set at = end - at
 
 loop-holds : tie.Need-loop-holds Inv-loop μ-loop
 loop-holds c =
-    let s = c .before .before in
-    (omega (arith, s .pre .1 .0), s .pre .0 .2, λ _. s .pre .1 .2, refl)
+    let s = c .before in
+    (omega (arith, s .pre .1 .0), s .pre .0 .1, λ _. s .pre .1 .2, refl)
 
 -- in a turn
 module _ (c : tie.In-loop Inv-loop μ-loop) where
   abbrev start : tie.Start Inv-loop μ-loop
-  start = c .before .before .before .before
+  start = c .before .before .before
 
   abbrev p : Profile
   p = start .args .p
@@ -50,7 +50,7 @@ fails-requires : tie.Need-fails-requires Inv-loop μ-loop
 fails-requires c κs =
     let t = c .before in
     let s = start t in
-    (s .pre .0 .0, rw (here t) (set-rising _ _ _ (inside t)), s .pre .0 .1)
+    (s .pre .0 .0, rw (here t) (set-rising _ _ _ (inside t)))
 
 -- the verdict on the set is that on its position
 decided : (c : tie.After-fails Inv-loop μ-loop)
@@ -62,7 +62,7 @@ decided c = let t = c .before .before in sym (c .fails .ensures ∙ ap (ambiguou
 same-length : tie.Need-same-length Inv-loop μ-loop
 same-length c =
     let t = c .before .before .before in
-    size t ∙ sym (start t .pre .0 .2)
+    size t ∙ sym (start t .pre .0 .1)
 
 returns : tie.Need-returns Inv-loop μ-loop
 returns c =
@@ -102,7 +102,7 @@ loop-again c =
     )
 
 same-length-2 : tie.Need-same-length-2 Inv-loop μ-loop
-same-length-2 c = c .before .loop .inv .1 ∙ sym (c .before .before .before .before .pre .0 .2)
+same-length-2 c = c .before .loop .inv .1 ∙ sym (c .before .before .before .pre .0 .1)
 
 returns-2 : tie.Need-returns-2 Inv-loop μ-loop
 returns-2 c =

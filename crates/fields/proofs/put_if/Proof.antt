@@ -1,8 +1,8 @@
--- `plan::list_node` meets its contract.
+-- `fields::put_if` meets its contract.
 use borrow.Author.Needs.{needs}
 use Rattle.lists.proofs.Put.{wrote-one, wrote-none}
-use Rattle.plan.proofs.list_node.Statement.{statement}
-use Rattle.plan.proofs.list_node.Tie as tie
+use Rattle.fields.proofs.put_if.Statement.{statement}
+use Rattle.fields.proofs.put_if.Tie as tie
 
 cast-out : tie.Need-cast-out
 cast-out c = search needs
@@ -22,6 +22,6 @@ returns c = rw (c .if1 .taken) (wrote-one _ _ _ (c .before .pre .0))
 returns-2 : tie.Need-returns-2
 returns-2 c = rw (c .if1 .left) (wrote-none _ _)
 
-pub list-node-spec : {M : Type 1} → statement M
-list-node-spec =
+pub put-if-spec : {M : Type 1} → statement M
+put-if-spec =
     tie.close (tie.spec cast-out slice-write-out add-result same-length returns returns-2)
