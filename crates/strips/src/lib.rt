@@ -1,11 +1,11 @@
 // What is done to whole strips. No table is read here: the loops over bytes hold shifts, comparisons and exclusive ors
 // alone.
 ghost use mathlib.Core.Path.{_≡_};
-ghost use Prim.Native.Nat.{ℕ, _+_, _*_, _^_, _<_, _≤_};
+ghost use Prim.Native.Nat.{ℕ, _+_, _*_, _%_, _^_, _<_, _≤_};
 ghost use lib.ListN.{length, take, drop, replicate};
 ghost use Rattle.gf256.specs.Field.{_⊗_, double};
 ghost use Rattle.lists.specs.Listed.{listed};
-ghost use Rattle.strips.specs.Strips.{combinationOf, SourcesFit, stripAt, addedScaled, addedStrip, coupledStrips};
+ghost use Rattle.strips.specs.Strips.{combinationOf, SourcesFit, stripAt, addedScaled, addedStrip, doubledStrip, coupledStrips};
 ghost use Rattle.strips.specs.Planes.{bitsAt, planeOf, offsetsOf, addedWith, doubledWith};
 ghost use Rattle.strips.specs.Planes.{partOf, addedFour, doubledFour, Alike, Lent};
 
@@ -17,7 +17,8 @@ fn twice(a: u8) -> u8
     (a << 1) ^ r
 }
 
-// The product, by the bits of s: a form that the compiler turns into vectors.
+// The product, by the bits of s: a form that the compiler turns into vectors. It is quicker where s stays the same
+// from call to call.
 fn times(c: u8, s: u8) -> u8
     ensures { λ r. ⌜ r ≡ c ⊗ s ⌝ }
 {
@@ -67,8 +68,45 @@ pub fn add_scaled(x: &mut [u8], at: usize, src: &[u8], c: u8)
 {
     let mut b: usize = 0;
     while b < src.len() {
-        x[at + b] = x[at + b] ^ times(c, src[b]);
+        x[at + b] = x[at + b] ^ times(src[b], c);
         b += 1;
+    }
+}
+
+// Twice each byte of a strip.
+fn double_strip(strip: &mut [u8])
+    ensures { λ _. ⌜ now (strip .exit) ≡ doubledStrip (now (strip .entry)) ⌝ }
+{
+    let mut b: usize = 0;
+    while b < strip.len() {
+        strip[b] = twice(strip[b]);
+        b += 1;
+    }
+}
+
+// Adds a strip if the lowest bit of y is set.
+fn add_bit(x: &mut [u8], at: usize, strip: &[u8], y: u8)
+    requires { ⌜ at + length (now strip) ≤ length (now x) ⌝ }
+    ensures { λ _. ⌜ now (x .exit) ≡ addedScaled (y % 2) at (now (strip .entry)) (now (x .entry)) ⌝ }
+{
+    if y % 2 == 0 {
+        return;
+    }
+    add(x, at, strip);
+}
+
+// Adds c times a strip, as `add_scaled` does, by the bits of c. The strip is doubled in place, so it is lost; for a long
+// strip this is quicker than a product for each byte.
+pub fn add_multiple(x: &mut [u8], at: usize, strip: &mut [u8], c: u8)
+    requires { ⌜ at + length (now strip) ≤ length (now x) ⌝ }
+    ensures { λ _. ⌜ now (x .exit) ≡ addedScaled c at (now (strip .entry)) (now (x .entry)) ⌝ }
+{
+    add_bit(x, at, strip, c);
+    let mut y = c >> 1;
+    while y > 0 {
+        double_strip(strip);
+        add_bit(x, at, strip, y);
+        y = y >> 1;
     }
 }
 
@@ -233,7 +271,7 @@ pub fn combine(dst: &mut [u8], src: &[u8], first: usize, stride: usize, weights:
 }
 
 // Couples the upper strip of a pair with the lower one, which lies before it in memory. Both are copied out first, so
-// that each loop reads the partner from another slice than the one it writes.
+// that each loop reads the partner from another slice than the one it writes; the upper strip's copy is used up.
 pub fn couple(x: &mut [u8], upper: usize, lower: usize, s: usize, t: u8)
     requires { ⌜ (s ≤ 512) × (lower + s ≤ upper) × (upper + s ≤ length (now x)) ⌝ }
     ensures { λ _. ⌜ now (x .exit) ≡ coupledStrips t upper lower s (now (x .entry)) ⌝ }
@@ -243,5 +281,5 @@ pub fn couple(x: &mut [u8], upper: usize, lower: usize, s: usize, t: u8)
     copy(&mut u[..s], x, upper);
     copy(&mut v[..s], x, lower);
     add(x, upper, &v[..s]);
-    add_scaled(x, lower, &u[..s], t);
+    add_multiple(x, lower, &mut u[..s], t);
 }
