@@ -24,9 +24,9 @@ sumOf (w ∷ ws) src offset stride = (w ⊗ getD src offset 0) ⊕ sumOf ws src 
 unfoldable pub combinationOf : List ℕ → List ℕ → ℕ → ℕ → ℕ → List ℕ
 combinationOf ws src first stride len = listed len (λ b. sumOf ws src (first + b) stride)
 
--- At most 24 sources, strips of at most 2048 bytes (a column: 4 rows of 512), and every source inside.
+-- At most 80 sources, strips of at most 2048 bytes (a column: 4 rows of 512), and every source inside.
 pub record SourcesFit (first stride count len size : ℕ) : Type 0 where
-  pub few : count ≤ 24
+  pub few : count ≤ 80
   pub short : len ≤ 2048
   pub reach : (q : ℕ) → q < count → first + q * stride + len ≤ size
 

@@ -235,7 +235,8 @@ fn double_add<'a>(dst: &mut [u8], src: &'a [u8], zeros: &'a [u8], at: &[usize], 
     }
 }
 
-// The step of Horner's rule for bit i of the weights.
+// The step of Horner's rule for bit i of the weights. What `at` holds is written over: it is lent, so that it is not made
+// anew for each bit.
 fn plane<'a>(
     dst: &mut [u8],
     src: &'a [u8],
@@ -243,16 +244,16 @@ fn plane<'a>(
     stride: usize,
     weights: &[u8],
     zeros: &'a [u8],
+    at: &mut [usize],
     i: usize,
 )
     requires { ⌜ SourcesFit first stride (length (now weights)) (length (now dst)) (length (now src))
-        × (now zeros ≡ replicate 2048 0) × (i < 8) ⌝ }
+        × (now zeros ≡ replicate 2048 0) × (length (now weights) ≤ length (now at)) × (i < 8) ⌝ }
     ensures { λ _. ⌜ now (dst .exit)
         ≡ planeOf i (now (weights .entry)) (now (src .entry)) first stride (now (dst .entry)) ⌝ }
 {
-    let mut at = [0usize; 24];
-    let count = gather(&mut at, weights, i, first, stride);
-    double_add(dst, src, zeros, &at, count);
+    let count = gather(at, weights, i, first, stride);
+    double_add(dst, src, zeros, at, count);
 }
 
 // The sum of the sources at first, first + stride, .. with these weights, by Horner's rule over the weights' bits.
@@ -262,11 +263,12 @@ pub fn combine(dst: &mut [u8], src: &[u8], first: usize, stride: usize, weights:
         ≡ combinationOf (now (weights .entry)) (now (src .entry)) first stride (length (now (dst .entry))) ⌝ }
 {
     let zeros = [0u8; 2048];
+    let mut at = [0usize; 80];
     fill(dst, 0);
     let mut i: usize = 8;
     while i > 0 {
         i -= 1;
-        plane(dst, src, first, stride, weights, &zeros, i);
+        plane(dst, src, first, stride, weights, &zeros, &mut at, i);
     }
 }
 
