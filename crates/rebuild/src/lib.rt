@@ -29,9 +29,8 @@ use document::Refusal;
 use document::Row;
 use plan::Step;
 
-// Adds the partner's strip, times the factor of row c at local column l. The factor 1 needs no product. For another one
-// the strip is copied, since `add_multiple` uses its strip up: with few bits in t, as 2 has, both together take half the
-// time of a product for each byte.
+// Adds the partner's strip, times the factor of row c at local column l. The factor 1 needs no product. For a small one
+// the strip is copied, since `add_multiple` uses its strip up; from 16 on the copy costs more than it saves.
 fn add_partner(x: &mut [u8], strip: &[u8], p: Profile, c: usize, l: usize)
     requires { ⌜ Accepted p × (c ≢ l) × (length (now strip) ≡ length (now x)) × (length (now x) ≤ 512) ⌝ }
     ensures { λ _. ⌜ now (x .exit)
@@ -42,6 +41,10 @@ fn add_partner(x: &mut [u8], strip: &[u8], p: Profile, c: usize, l: usize)
         return;
     }
     let t = p.constant(Row(c), l);
+    if t >= 16 {
+        strips::add_scaled(x, 0, strip, t);
+        return;
+    }
     let s = strip.len();
     let mut u = [0u8; Profile::MAX_STRIP];
     strips::copy(&mut u[..s], strip, 0);

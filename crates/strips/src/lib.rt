@@ -95,12 +95,16 @@ fn add_bit(x: &mut [u8], at: usize, strip: &[u8], y: u8)
     add(x, at, strip);
 }
 
-// Adds c times a strip, as `add_scaled` does, by the bits of c. The strip is doubled in place, so it is lost; for a long
-// strip this is quicker than a product for each byte.
+// Adds c times a strip, as `add_scaled` does, and uses the strip up. A small c is taken bit by bit, with the strip doubled
+// in place; from 32 on that takes longer than a product for each byte.
 pub fn add_multiple(x: &mut [u8], at: usize, strip: &mut [u8], c: u8)
     requires { ⌜ at + length (now strip) ≤ length (now x) ⌝ }
     ensures { λ _. ⌜ now (x .exit) ≡ addedScaled c at (now (strip .entry)) (now (x .entry)) ⌝ }
 {
+    if c >= 32 {
+        add_scaled(x, at, strip, c);
+        return;
+    }
     add_bit(x, at, strip, c);
     let mut y = c >> 1;
     while y > 0 {

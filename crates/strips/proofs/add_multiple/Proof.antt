@@ -19,6 +19,18 @@ Inv-loop x₀ at strip₀ c y₀ x strip y =
 abbrev μ-loop : tie.MeasureT-loop
 μ-loop x₀ at strip₀ c y₀ x strip y = y
 
+add-scaled-requires : tie.Need-add-scaled-requires Inv-loop μ-loop
+add-scaled-requires c κs = search needs
+
+same-length : tie.Need-same-length Inv-loop μ-loop
+same-length c = search needs
+
+same-length-2 : tie.Need-same-length-2 Inv-loop μ-loop
+same-length-2 c = search needs
+
+returns : tie.Need-returns Inv-loop μ-loop
+returns c = c .before .before .add-scaled .ensures
+
 add-bit-requires : tie.Need-add-bit-requires Inv-loop μ-loop
 add-bit-requires c κs = search needs
 
@@ -40,7 +52,7 @@ loop-again c =
     let w = c .before .before .before .before .before .before .before in
     let d = w .double-strip in
     let l = w .before .before .before .loop in
-    let s = w .before .before .before .before .before .before .before .before .before .before .before in
+    let s = w .before .before .before .before .before .before .before .before .before .before .before .before in
     let at = s .args .at in (
       omega arith,
       b .kept .0 ∙ l .inv .1,
@@ -50,17 +62,17 @@ loop-again c =
           ∙ ap (λ (z : List ℕ). addedScaled (l .y) at z (l .x)) (d .ensures) ∙ l .inv .3,
     )
 
-same-length : tie.Need-same-length Inv-loop μ-loop
-same-length c = search needs
+same-length-3 : tie.Need-same-length-3 Inv-loop μ-loop
+same-length-3 c = search needs
 
-same-length-2 : tie.Need-same-length-2 Inv-loop μ-loop
-same-length-2 c = search needs
+same-length-4 : tie.Need-same-length-4 Inv-loop μ-loop
+same-length-4 c = search needs
 
-returns : tie.Need-returns Inv-loop μ-loop
-returns c =
+returns-2 : tie.Need-returns-2 Inv-loop μ-loop
+returns-2 c =
     let l = c .before .loop in
     let w = c .before .before .before .before in
-    let s = w .before .before .before .before .before in
+    let s = w .before .before .before .before .before .before in
     let g = s .args in
     let strip = g .strip .now in
     let none : 0 ≡ l .y = omega arith in
@@ -75,12 +87,16 @@ add-multiple-spec =
     (tie.spec
     Inv-loop
     μ-loop
+    add-scaled-requires
+    same-length
+    same-length-2
+    returns
     add-bit-requires
     loop-holds
     double-strip-requires
     add-bit-requires-2
     loop-less
     loop-again
-    same-length
-    same-length-2
-    returns)
+    same-length-3
+    same-length-4
+    returns-2)
