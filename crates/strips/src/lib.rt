@@ -17,8 +17,7 @@ fn twice(a: u8) -> u8
     (a << 1) ^ r
 }
 
-// The product, by the bits of s: a form that the compiler turns into vectors. It is quicker where s stays the same
-// from call to call.
+// The product, by the bits of s: a form that the compiler turns into vectors.
 fn times(c: u8, s: u8) -> u8
     ensures { λ r. ⌜ r ≡ c ⊗ s ⌝ }
 {
@@ -68,7 +67,7 @@ pub fn add_scaled(x: &mut [u8], at: usize, src: &[u8], c: u8)
 {
     let mut b: usize = 0;
     while b < src.len() {
-        x[at + b] = x[at + b] ^ times(src[b], c);
+        x[at + b] = x[at + b] ^ times(c, src[b]);
         b += 1;
     }
 }

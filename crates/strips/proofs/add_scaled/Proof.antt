@@ -7,7 +7,6 @@ use lib.ListN.{length, getD, length-set}
 use Rattle.lists.specs.Listed.{patched}
 use Rattle.lists.proofs.Patched.{patched-none, patched-next, patched-more}
 use Rattle.gf256.specs.Field.{_⊕_, _⊗_}
-use Rattle.gf256.proofs.Ring.{mul-comm}
 use Rattle.strips.specs.Strips.{addedScaled}
 use Rattle.strips.proofs.add_scaled.Statement.{statement}
 use Rattle.strips.proofs.add_scaled.Tie as tie
@@ -56,7 +55,7 @@ loop-again c =
       omega arith,
       simp length-set (l .inv .1),
       patched-more (g .at) (l .b) f (g .x .now) (l .x) (l .inv .2) (omega arith) _
-          (ap₂ _⊕_ old (c .times .ensures ∙ mul-comm _ (g .c))),
+          (ap₂ _⊕_ old (c .times .ensures)),
     )
 
 same-length : tie.Need-same-length Inv-loop μ-loop
