@@ -29,10 +29,10 @@ use document::Refusal;
 use document::Row;
 use plan::Step;
 
-// Adds the partner's strip, times the factor of row c at local column l. The factor 1 is left out: a product takes
-// eight turns a byte.
+// Adds the partner's strip, times the factor of row c at local column l. The factor 1 needs no product. For a small one
+// the strip is copied, since `add_multiple` uses its strip up; from 16 on the copy costs more than it saves.
 fn add_partner(x: &mut [u8], strip: &[u8], p: Profile, c: usize, l: usize)
-    requires { ⌜ Accepted p × (c ≢ l) × (length (now strip) ≡ length (now x)) ⌝ }
+    requires { ⌜ Accepted p × (c ≢ l) × (length (now strip) ≡ length (now x)) × (length (now x) ≤ 512) ⌝ }
     ensures { λ _. ⌜ now (x .exit)
         ≡ addedScaled (number (factorAt p c l)) 0 (now (strip .entry)) (now (x .entry)) ⌝ }
 {
@@ -41,7 +41,14 @@ fn add_partner(x: &mut [u8], strip: &[u8], p: Profile, c: usize, l: usize)
         return;
     }
     let t = p.constant(Row(c), l);
-    strips::add_scaled(x, 0, strip, t);
+    if t >= 16 {
+        strips::add_scaled(x, 0, strip, t);
+        return;
+    }
+    let s = strip.len();
+    let mut u = [0u8; Profile::MAX_STRIP];
+    strips::copy(&mut u[..s], strip, 0);
+    strips::add_multiple(x, 0, &mut u[..s], t);
 }
 
 // Folds the strips that are read at node j into one; they stand in the plan from place m on. Returns the place after.

@@ -1,18 +1,38 @@
 -- The laws of strips added: once, a multiple of a strip, and a multiple of a strip to another, byte by byte.
-use mathlib.Core.Path.{_≡_, sym, ap, ap₂, _∙_}
+use mathlib.Core.Path.{_≡_, refl, sym, ap, ap₂, _∙_}
+use mathlib.Core.Bool.{Bool, true, false, _&&_, cond}
 use mathlib.Core.List.{List}
-use Prim.Native.Nat.{ℕ, _+_, _≤_, _<_}
+use Prim.Native.Nat.{ℕ, _+_, _-_, _/_, _%_, _≤_, _<_}
 use native.Mathlib.Nat.{zero-add}
 use native.Mathlib.Decide.{decLt}
 use native.Mathlib.Omega.{arith}
+use lib.Dec.{leb, ltb}
 use lib.ListN.{length, getD, List·getD-eq-default}
 use lib.Seq.{ext-getD}
 use Rattle.lists.specs.Listed.{listed, patched}
-use Rattle.lists.proofs.Listed.{listed-length, listed-at}
+use Rattle.lists.proofs.Listed.{listed-length, listed-at, listed-ext}
 use Rattle.lists.proofs.Patched.{patched-ext, patched-length, patched-in, patched-out}
-use Rattle.gf256.specs.Field.{_⊕_, _⊗_}
-use Rattle.gf256.proofs.Ring.{add-zero, mul-zero, zero-mul, one-mul}
-use Rattle.strips.specs.Strips.{stripAt, addedScaled, addedStrip}
+use Rattle.gf256.specs.Field.{_⊕_, _⊗_, double}
+use Rattle.gf256.proofs.Ring.{add-zero, add-assoc, mul-zero, zero-mul, one-mul, mul-comm}
+use Rattle.strips.specs.Strips.{stripAt, addedScaled, addedStrip, doubledStrip}
+use Rattle.strips.proofs.Byte.{mul-turn}
+
+-- a part written anew
+patched-again : (at m : ℕ) (f g : ℕ → ℕ) (x : List ℕ) → patched at m f (patched at m g x) ≡ patched at m f x
+unfolding patched
+patched-again at m f g x =
+    ap (λ (n : ℕ). listed n (λ p. cond (inside p) (f (p - at)) (getD (patched at m g x) p 0)))
+    (patched-length at m g x)
+    ∙ listed-ext (length x) _ _ (λ p h.
+    ap (λ (v : ℕ). cond (inside p) (f (p - at)) v) (listed-at (length x) _ p 0 h)
+    ∙ last (inside p) (f (p - at)) (g (p - at)) (getD x p 0))
+  where
+    inside : ℕ → Bool
+    inside p = leb at p && ltb p (at + m)
+
+    last : (b : Bool) (u v w : ℕ) → cond b u (cond b v w) ≡ cond b u w
+    last true u v w = refl
+    last false u v w = refl
 
 -- adding once is adding with the factor 1
 pub added-once : (at : ℕ) (src x : List ℕ) → ((b : ℕ) → getD src b 0 < 256)
@@ -25,6 +45,40 @@ added-once at src x small =
 pub added-length : (f at : ℕ) (ys xs : List ℕ) → length (addedScaled f at ys xs) ≡ length xs
 unfolding addedScaled
 added-length f at ys xs = patched-length at (length ys) _ xs
+
+pub added-zero : (at : ℕ) (ys xs : List ℕ) → addedScaled 0 at ys xs ≡ xs
+unfolding addedScaled
+added-zero at ys xs =
+    ext-getD 0 (addedScaled 0 at ys xs) xs (added-length 0 at ys xs)
+    (λ p h. go p (omega (arith, added-length 0 at ys xs)) (decLt p at) (decLt p (at + length ys)))
+  where
+    go : (p : ℕ) → p < length xs → Dec (p < at) → Dec (p < at + length ys)
+        → getD (addedScaled 0 at ys xs) p 0 ≡ getD xs p 0
+    go p h (yes d) k = patched-out at (length ys) _ xs p (λ l q. omega arith)
+    go p h (no d) (no k) = patched-out at (length ys) _ xs p (λ l q. omega arith)
+    go p h (no d) (yes k) =
+        let q : at + (p - at) ≡ p = omega arith in
+        rw (← q) (patched-in at (length ys) _ xs (p - at) (omega arith) (omega arith) ∙ rw (zero-mul, add-zero))
+
+-- y times a strip, by the lowest bit of y and the others: what the bit adds, then half of y times the doubled strip
+module _ (at y : ℕ) (s x : List ℕ) (small : y < 256) (fits : at + length s ≤ length x) where
+  bit-at : (a v : ℕ) → (a ⊕ ((y % 2) ⊗ v)) ⊕ ((y / 2) ⊗ double v) ≡ a ⊕ (y ⊗ v)
+  bit-at a v =
+      add-assoc a ((y % 2) ⊗ v) ((y / 2) ⊗ double v)
+      ∙ ap (λ (z : ℕ). a ⊕ z) (ap₂ _⊕_ (mul-comm (y % 2) v) (mul-comm (y / 2) (double v))
+      ∙ sym (mul-turn v y small) ∙ mul-comm v y)
+
+  pub added-bit : addedScaled (y / 2) at (doubledStrip s) (addedScaled (y % 2) at s x) ≡ addedScaled y at s x
+  unfolding addedScaled doubledStrip
+  added-bit =
+      let z : List ℕ = addedScaled (y % 2) at s x in
+      ap (λ (m : ℕ). patched at m (λ b. getD z (at + b) 0 ⊕ ((y / 2) ⊗ getD (doubledStrip s) b 0)) z)
+      (listed-length (length s) _)
+      ∙ patched-ext at (length s) _ (λ b. getD x (at + b) 0 ⊕ (y ⊗ getD s b 0)) z
+      (λ b h. ap₂ (λ (u v : ℕ). u ⊕ ((y / 2) ⊗ v)) (patched-in at (length s) _ x b h (omega arith))
+      (listed-at (length s) _ b 0 h)
+      ∙ bit-at (getD x (at + b) 0) (getD s b 0))
+      ∙ patched-again at (length s) _ _ x
 
 -- f·y added to a list from its first entry on
 module _ (f : ℕ) (ys xs : List ℕ) where
@@ -43,9 +97,7 @@ module _ (f : ℕ) (ys xs : List ℕ) where
 
   -- no multiple of y: the list stays
   pub added-none : f ≡ 0 → addedScaled f 0 ys xs ≡ xs
-  added-none e =
-      ext-getD 0 (addedScaled f 0 ys xs) xs (added-length f 0 ys xs)
-      (λ j h. added-at j (omega (arith, added-length f 0 ys xs)) ∙ rw (e, zero-mul, add-zero))
+  added-none e = ap (λ (g : ℕ). addedScaled g 0 ys xs) e ∙ added-zero 0 ys xs
 
 -- a multiple of a strip added to a whole list of its length
 module _ (c n : ℕ) (f g : ℕ → ℕ) where

@@ -7,12 +7,13 @@
 -- stripAt x at s                        : the s bytes of x from `at` on
 -- addedScaled c at src x                : x with c times the bytes of src added from `at` on
 -- addedStrip at src x                   : x with the bytes of src added from `at` on
+-- doubledStrip x                        : twice each byte of x
 -- coupledStrips t upper lower s x       : x with its strips at `upper` and `lower`, of s bytes each, coupled by t
 use mathlib.Core.List.{List, [], _∷_}
 use Prim.Native.Nat.{ℕ, _+_, _*_, _≤_, _<_}
 use lib.ListN.{length, getD}
 use Rattle.lists.specs.Listed.{listed, patched}
-use Rattle.gf256.specs.Field.{_⊕_, _⊗_}
+use Rattle.gf256.specs.Field.{_⊕_, _⊗_, double}
 
 -- 'all rules below hold at each byte offset of a strip on its own': one offset of a sum of weighted strips.
 unfoldable pub sumOf : List ℕ → List ℕ → ℕ → ℕ → ℕ
@@ -23,9 +24,9 @@ sumOf (w ∷ ws) src offset stride = (w ⊗ getD src offset 0) ⊕ sumOf ws src 
 unfoldable pub combinationOf : List ℕ → List ℕ → ℕ → ℕ → ℕ → List ℕ
 combinationOf ws src first stride len = listed len (λ b. sumOf ws src (first + b) stride)
 
--- At most 24 sources, strips of at most 2048 bytes (a column: 4 rows of 512), and every source inside.
+-- At most 80 sources, strips of at most 2048 bytes (a column: 4 rows of 512), and every source inside.
 pub record SourcesFit (first stride count len size : ℕ) : Type 0 where
-  pub few : count ≤ 24
+  pub few : count ≤ 80
   pub short : len ≤ 2048
   pub reach : (q : ℕ) → q < count → first + q * stride + len ≤ size
 
@@ -38,6 +39,9 @@ addedScaled c at src x = patched at (length src) (λ b. getD x (at + b) 0 ⊕ (c
 
 unfoldable pub addedStrip : ℕ → List ℕ → List ℕ → List ℕ
 addedStrip at src x = patched at (length src) (λ b. getD x (at + b) 0 ⊕ getD src b 0) x
+
+unfoldable pub doubledStrip : List ℕ → List ℕ
+doubledStrip x = listed (length x) (λ b. double (getD x b 0))
 
 -- 'Coupling', of one pair: in the upper strip the partner in the lower one is added to each byte, in the lower strip t
 -- times the partner in the upper one; all other bytes stay.

@@ -1,11 +1,11 @@
 // What is done to whole strips. No table is read here: the loops over bytes hold shifts, comparisons and exclusive ors
 // alone.
 ghost use mathlib.Core.Path.{_≡_};
-ghost use Prim.Native.Nat.{ℕ, _+_, _*_, _^_, _<_, _≤_};
+ghost use Prim.Native.Nat.{ℕ, _+_, _*_, _%_, _^_, _<_, _≤_};
 ghost use lib.ListN.{length, take, drop, replicate};
 ghost use Rattle.gf256.specs.Field.{_⊗_, double};
 ghost use Rattle.lists.specs.Listed.{listed};
-ghost use Rattle.strips.specs.Strips.{combinationOf, SourcesFit, stripAt, addedScaled, addedStrip, coupledStrips};
+ghost use Rattle.strips.specs.Strips.{combinationOf, SourcesFit, stripAt, addedScaled, addedStrip, doubledStrip, coupledStrips};
 ghost use Rattle.strips.specs.Planes.{bitsAt, planeOf, offsetsOf, addedWith, doubledWith};
 ghost use Rattle.strips.specs.Planes.{partOf, addedFour, doubledFour, Alike, Lent};
 
@@ -69,6 +69,47 @@ pub fn add_scaled(x: &mut [u8], at: usize, src: &[u8], c: u8)
     while b < src.len() {
         x[at + b] = x[at + b] ^ times(c, src[b]);
         b += 1;
+    }
+}
+
+// Twice each byte of a strip.
+fn double_strip(strip: &mut [u8])
+    ensures { λ _. ⌜ now (strip .exit) ≡ doubledStrip (now (strip .entry)) ⌝ }
+{
+    let mut b: usize = 0;
+    while b < strip.len() {
+        strip[b] = twice(strip[b]);
+        b += 1;
+    }
+}
+
+// Adds a strip if the lowest bit of y is set.
+fn add_bit(x: &mut [u8], at: usize, strip: &[u8], y: u8)
+    requires { ⌜ at + length (now strip) ≤ length (now x) ⌝ }
+    ensures { λ _. ⌜ now (x .exit) ≡ addedScaled (y % 2) at (now (strip .entry)) (now (x .entry)) ⌝ }
+{
+    if y % 2 == 0 {
+        return;
+    }
+    add(x, at, strip);
+}
+
+// Adds c times a strip, as `add_scaled` does, and uses the strip up. A small c is taken bit by bit, with the strip doubled
+// in place; from 32 on that takes longer than a product for each byte.
+pub fn add_multiple(x: &mut [u8], at: usize, strip: &mut [u8], c: u8)
+    requires { ⌜ at + length (now strip) ≤ length (now x) ⌝ }
+    ensures { λ _. ⌜ now (x .exit) ≡ addedScaled c at (now (strip .entry)) (now (x .entry)) ⌝ }
+{
+    if c >= 32 {
+        add_scaled(x, at, strip, c);
+        return;
+    }
+    add_bit(x, at, strip, c);
+    let mut y = c >> 1;
+    while y > 0 {
+        double_strip(strip);
+        add_bit(x, at, strip, y);
+        y = y >> 1;
     }
 }
 
@@ -197,7 +238,8 @@ fn double_add<'a>(dst: &mut [u8], src: &'a [u8], zeros: &'a [u8], at: &[usize], 
     }
 }
 
-// The step of Horner's rule for bit i of the weights.
+// The step of Horner's rule for bit i of the weights. What `at` holds is written over: it is lent, so that it is not made
+// anew for each bit.
 fn plane<'a>(
     dst: &mut [u8],
     src: &'a [u8],
@@ -205,16 +247,16 @@ fn plane<'a>(
     stride: usize,
     weights: &[u8],
     zeros: &'a [u8],
+    at: &mut [usize],
     i: usize,
 )
     requires { ⌜ SourcesFit first stride (length (now weights)) (length (now dst)) (length (now src))
-        × (now zeros ≡ replicate 2048 0) × (i < 8) ⌝ }
+        × (now zeros ≡ replicate 2048 0) × (length (now weights) ≤ length (now at)) × (i < 8) ⌝ }
     ensures { λ _. ⌜ now (dst .exit)
         ≡ planeOf i (now (weights .entry)) (now (src .entry)) first stride (now (dst .entry)) ⌝ }
 {
-    let mut at = [0usize; 24];
-    let count = gather(&mut at, weights, i, first, stride);
-    double_add(dst, src, zeros, &at, count);
+    let count = gather(at, weights, i, first, stride);
+    double_add(dst, src, zeros, at, count);
 }
 
 // The sum of the sources at first, first + stride, .. with these weights, by Horner's rule over the weights' bits.
@@ -224,16 +266,17 @@ pub fn combine(dst: &mut [u8], src: &[u8], first: usize, stride: usize, weights:
         ≡ combinationOf (now (weights .entry)) (now (src .entry)) first stride (length (now (dst .entry))) ⌝ }
 {
     let zeros = [0u8; 2048];
+    let mut at = [0usize; 80];
     fill(dst, 0);
     let mut i: usize = 8;
     while i > 0 {
         i -= 1;
-        plane(dst, src, first, stride, weights, &zeros, i);
+        plane(dst, src, first, stride, weights, &zeros, &mut at, i);
     }
 }
 
 // Couples the upper strip of a pair with the lower one, which lies before it in memory. Both are copied out first, so
-// that each loop reads the partner from another slice than the one it writes.
+// that each loop reads the partner from another slice than the one it writes; the upper strip's copy is used up.
 pub fn couple(x: &mut [u8], upper: usize, lower: usize, s: usize, t: u8)
     requires { ⌜ (s ≤ 512) × (lower + s ≤ upper) × (upper + s ≤ length (now x)) ⌝ }
     ensures { λ _. ⌜ now (x .exit) ≡ coupledStrips t upper lower s (now (x .entry)) ⌝ }
@@ -243,5 +286,5 @@ pub fn couple(x: &mut [u8], upper: usize, lower: usize, s: usize, t: u8)
     copy(&mut u[..s], x, upper);
     copy(&mut v[..s], x, lower);
     add(x, upper, &v[..s]);
-    add_scaled(x, lower, &u[..s], t);
+    add_multiple(x, lower, &mut u[..s], t);
 }

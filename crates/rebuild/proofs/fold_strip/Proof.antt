@@ -44,6 +44,9 @@ module _ (c : tie.After-copy) where
       ∙ ap (stripAt (start .args .src .now) (start .args .first + start .args .m * start .args .stride))
       (start .pre .0 .2)
 
+  copied-length : length (c .copy .last .0) ≡ start .args .p .s
+  copied-length = ap length copied ∙ strip-length (start .args .src .now) _ (start .args .p .s)
+
 -- where the test says that node j is off the diagonal
 module _ (t : tie.Then1) where
   abbrev copy : tie.After-copy
@@ -71,8 +74,7 @@ module _ (t : tie.Then1) where
 
   as-long : length (take (from + s .args .p .s - from) (drop from (s .args .src .now))) ≡ length (copy .copy .last .0)
   as-long =
-      ap length partner ∙ strip-length (s .args .src .now) from (s .args .p .s)
-      ∙ sym (ap length (copied copy) ∙ strip-length (s .args .src .now) _ (s .args .p .s))
+      ap length partner ∙ strip-length (s .args .src .now) from (s .args .p .s) ∙ sym (copied-length copy)
 
   folded : {z : List ℕ}
       → z ≡ addedScaled (number (factorAt (s .args .p) (s .args .f .0 % s .args .p .a)
@@ -129,7 +131,7 @@ add-partner-requires : tie.Need-add-partner-requires
 add-partner-requires c κs =
     let t = c .before .before .before .before .before .before in
     let a = s t .args in
-    (s t .pre .0 .0, off-column (a .p .a) (a .f) (a .j) (off t), as-long t)
+    (s t .pre .0 .0, off-column (a .p .a) (a .f) (a .j) (off t), as-long t, omega (arith, copied-length (copy t), s t .pre .0 .0 .short))
 
 add-result : tie.Need-add-result
 add-result c =

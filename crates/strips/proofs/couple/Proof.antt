@@ -80,30 +80,30 @@ added-length : (at : ℕ) (src x : List ℕ) → length (addedStrip at src x) �
 unfolding addedStrip
 added-length at src x = patched-length at (length src) _ x
 
-array-share-prefix-u : tie.Need-array-share-prefix-u
-array-share-prefix-u c =
+array-borrow-prefix-u-2 : tie.Need-array-borrow-prefix-u-2
+array-borrow-prefix-u-2 c =
     let w = c .before .before .before .before .before .before .before in
     front-fits (u w) _ (upper-size w)
 
-slice-aggregate-add-scaled : tie.Need-slice-aggregate-add-scaled
-slice-aggregate-add-scaled c = sym (length-take-le _ _ (array-share-prefix-u (c .before)))
+slice-aggregate-add-multiple : tie.Need-slice-aggregate-add-multiple
+slice-aggregate-add-multiple c = sym (length-take-le _ _ (array-borrow-prefix-u-2 (c .before)))
 
-add-scaled-requires : tie.Need-add-scaled-requires
-add-scaled-requires c κs =
+add-multiple-requires : tie.Need-add-multiple-requires
+add-multiple-requires c κs =
     let added = c .before .before .before .before in
     let w = added .before .before .before .before in
     let same = ap length (added .add .ensures) ∙ added-length _ _ (x w) in
-    omega (arith, slice-aggregate-add-scaled c, same, (start w) .pre)
+    omega (arith, slice-aggregate-add-multiple c, same, (start w) .pre)
 
 same-length : tie.Need-same-length
 same-length c = search needs
 
 returns : tie.Need-returns
 returns c =
-    let added = c .before .before .before .before .before .before .before in
+    let added = c .before .before .before .before .before .before .before .before in
     let w = added .before .before .before .before in
     let a = (start w) .args in
-    c .before .before .add-scaled .ensures
+    c .before .before .before .add-multiple .ensures
     ∙ ap (addedScaled (a .t) (a .lower) _) (added .add .ensures)
     ∙ both-added (a .t) (a .upper) (a .lower) (a .s) (x w) ((start w) .pre .1) ((start w) .pre .2) _ _
     (front (u w) _ (upper-size w) ∙ upper w) (front (v w) _ (lower-size w) ∙ lower w)
@@ -121,8 +121,8 @@ couple-spec =
     array-share-prefix-v
     slice-aggregate-add
     add-requires
-    array-share-prefix-u
-    slice-aggregate-add-scaled
-    add-scaled-requires
+    array-borrow-prefix-u-2
+    slice-aggregate-add-multiple
+    add-multiple-requires
     same-length
     returns)

@@ -17,43 +17,33 @@ lent : (i : ℕ) (ws src zeros : List ℕ) (first stride : ℕ) {os : List ℕ} 
 lent i ws src zeros first stride {os} {n} w z e =
     record { blank = z; short = w .short; inside = rw e (gathered-inside i ws first stride n (length src) (w .reach)) }
 
-slice-aggregate-gather : tie.Need-slice-aggregate-gather
-slice-aggregate-gather c = search needs
-
 gather-requires : tie.Need-gather-requires
 gather-requires c κs =
-    let s = c .before .before .before .before .before in
-    (s .pre .0 .few, s .pre .2, λ q h. omega (arith, s .pre .0 .reach q h))
-
-slice-aggregate-double-add : tie.Need-slice-aggregate-double-add
-slice-aggregate-double-add c = search needs
+    let s = c .before .before .before .before .before .before in
+    (s .pre .2, s .pre .3, λ q h. omega (arith, s .pre .0 .reach q h))
 
 double-add-requires : tie.Need-double-add-requires
 double-add-requires c κs =
-    let s = c .before .before .before .before .before .before .before .before .before in
+    let w = c .before .before .before .before in
+    let s = w .before .before .before .before .before .before .before in
     let g = s .args in
-    let r = c .before .before .before .gather .ensures in
+    let r = w .gather .ensures in
     (lent (g .i) (g .weights .now) _ _ (g .first) (g .stride) (s .pre .0) (s .pre .1) (r .1), r .0)
 
 same-length : tie.Need-same-length
 same-length c = search needs
 
+same-length-2 : tie.Need-same-length-2
+same-length-2 c = search needs
+
 returns : tie.Need-returns
 returns c =
-    let w = c .before .before .before .before .before .before in
-    let k = w .before .before .before .before in
+    let w = c .before .before .before .before .before .before .before in
+    let k = w .before .before .before .before .before in
     let g = k .before .before .args in
     plane-gathered (g .i) (g .weights .now) (g .src .now) (g .dst .now) (g .first) (g .stride) _ _
     (λ p. omega (arith, k .shared-slice-known .given p)) (w .gather .ensures .1)
     (c .before .before .double-add .ensures)
 
 pub plane-spec : {M : Type 1} → statement M
-plane-spec =
-    tie.close
-    (tie.spec
-    slice-aggregate-gather
-    gather-requires
-    slice-aggregate-double-add
-    double-add-requires
-    same-length
-    returns)
+plane-spec = tie.close (tie.spec gather-requires double-add-requires same-length same-length-2 returns)

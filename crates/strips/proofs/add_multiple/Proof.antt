@@ -1,0 +1,102 @@
+-- `strips::add_multiple` meets its contract. The invariant: what is left to add, y times the doubled strip, makes of x
+-- what it would have made of it when the loop began.
+use mathlib.Core.Path.{_≡_, refl, sym, ap, _∙_}
+use mathlib.Core.List.{List}
+use Prim.Native.Nat.{ℕ, _/_, _<_}
+use native.Mathlib.Omega.{arith}
+use borrow.Author.Needs.{needs}
+use lib.ListN.{length}
+use Rattle.strips.specs.Strips.{addedScaled, doubledStrip}
+use Rattle.strips.proofs.Added.{added-zero, added-bit}
+use Rattle.strips.proofs.add_multiple.Statement.{statement}
+use Rattle.strips.proofs.add_multiple.Tie as tie
+
+abbrev Inv-loop : tie.InvT-loop
+Inv-loop x₀ at strip₀ c y₀ x strip y =
+    (y < 256) × (length x ≡ length x₀) × (length strip ≡ length strip₀)
+    × (addedScaled y at (doubledStrip strip) x ≡ addedScaled y₀ at (doubledStrip strip₀) x₀)
+
+abbrev μ-loop : tie.MeasureT-loop
+μ-loop x₀ at strip₀ c y₀ x strip y = y
+
+add-scaled-requires : tie.Need-add-scaled-requires Inv-loop μ-loop
+add-scaled-requires c κs = search needs
+
+same-length : tie.Need-same-length Inv-loop μ-loop
+same-length c = search needs
+
+same-length-2 : tie.Need-same-length-2 Inv-loop μ-loop
+same-length-2 c = search needs
+
+returns : tie.Need-returns Inv-loop μ-loop
+returns c = c .before .before .add-scaled .ensures
+
+add-bit-requires : tie.Need-add-bit-requires Inv-loop μ-loop
+add-bit-requires c κs = search needs
+
+loop-holds : tie.Need-loop-holds Inv-loop μ-loop
+loop-holds c = (search needs, refl, refl, refl)
+
+double-strip-requires : tie.Need-double-strip-requires Inv-loop μ-loop
+double-strip-requires c κs = tt
+
+add-bit-requires-2 : tie.Need-add-bit-requires-2 Inv-loop μ-loop
+add-bit-requires-2 c κs = search needs
+
+loop-less : tie.Need-loop-less Inv-loop μ-loop
+loop-less c = search needs
+
+loop-again : tie.Need-loop-again Inv-loop μ-loop
+loop-again c =
+    let b = c .before .before .add-bit2 in
+    let w = c .before .before .before .before .before .before .before in
+    let d = w .double-strip in
+    let l = w .before .before .before .loop in
+    let s = w .before .before .before .before .before .before .before .before .before .before .before .before in
+    let at = s .args .at in (
+      omega arith,
+      b .kept .0 ∙ l .inv .1,
+      d .kept .0 ∙ l .inv .2,
+      ap (λ (z : List ℕ). addedScaled (l .y / 2) at (doubledStrip (d .last .0)) z) (b .ensures)
+          ∙ added-bit at (l .y) (d .last .0) (l .x) (l .inv .0) (omega arith)
+          ∙ ap (λ (z : List ℕ). addedScaled (l .y) at z (l .x)) (d .ensures) ∙ l .inv .3,
+    )
+
+same-length-3 : tie.Need-same-length-3 Inv-loop μ-loop
+same-length-3 c = search needs
+
+same-length-4 : tie.Need-same-length-4 Inv-loop μ-loop
+same-length-4 c = search needs
+
+returns-2 : tie.Need-returns-2 Inv-loop μ-loop
+returns-2 c =
+    let l = c .before .loop in
+    let w = c .before .before .before .before in
+    let s = w .before .before .before .before .before .before in
+    let g = s .args in
+    let strip = g .strip .now in
+    let none : 0 ≡ l .y = omega arith in
+    sym (added-zero (g .at) (doubledStrip (l .strip)) (l .x))
+    ∙ ap (λ (d : ℕ). addedScaled d (g .at) (doubledStrip (l .strip)) (l .x)) none ∙ l .inv .3
+    ∙ ap (λ (z : List ℕ). addedScaled (g .c / 2) (g .at) (doubledStrip strip) z) (w .add-bit .ensures)
+    ∙ added-bit (g .at) (g .c) strip (g .x .now) (search needs) (s .pre)
+
+pub add-multiple-spec : {M : Type 1} → statement M
+add-multiple-spec =
+    tie.close
+    (tie.spec
+    Inv-loop
+    μ-loop
+    add-scaled-requires
+    same-length
+    same-length-2
+    returns
+    add-bit-requires
+    loop-holds
+    double-strip-requires
+    add-bit-requires-2
+    loop-less
+    loop-again
+    same-length-3
+    same-length-4
+    returns-2)
