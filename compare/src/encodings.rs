@@ -188,7 +188,7 @@ fn single_bytes(tally: &mut Tally, random: &mut Random) -> Result<(), String> {
     Ok(())
 }
 
-/// Each accepted (n, k, A) with random data, each of the strip lengths and two others.
+/// Each accepted (n, k, A) with random data, each of the strip lengths and two others; then with all lengths of the buffers.
 fn every_profile(tally: &mut Tally, random: &mut Random) -> Result<(), String> {
     for (n, k, rows) in code::all_accepted() {
         let others = [random.between(1, 512), random.between(1, 512)];
@@ -197,6 +197,8 @@ fn every_profile(tally: &mut Tally, random: &mut Random) -> Result<(), String> {
             let case = Case::fitting(Profile { n, k, rows, t, s }, random);
             tally.compare(case, random)?;
         }
+        let (t, s) = (random.between(2, 255), random.between(1, 4));
+        every_length(&Profile { n, k, rows, t, s }, tally, random)?;
     }
     Ok(())
 }
