@@ -1,8 +1,8 @@
 //! The kinds about writing a bundle: the sample, accepted and refused calls.
 
 use crate::calls::{
-    every_lost_node, every_shape, random_profile, random_scenario, replace_number, small_and_refused_numbers, small_like,
-    Call, Tally,
+    every_lost_node, every_shape, random_profile, random_scenario, replace_number, small_and_refused_numbers,
+    small_like, Call, Tally,
 };
 use crate::code::{self, Profile, Refusal};
 use crate::download::Wanted;

@@ -139,9 +139,36 @@ fn numbers_in_every_order() -> Vec<(Profile, usize)> {
     numbers
 }
 
-/// A profile and a lost node: all of the two lists above.
+/// Numbers far out of range, among them all that a type of 1, 2 or 4 bytes, or of 63 bits, would cut down to this one.
+fn far_from(number: usize) -> [usize; 8] {
+    let cut_down = [1 << 8, 1 << 16, 1 << 32, 1 << 63].map(|past| number + past);
+    let [byte, two_bytes, four_bytes, bits] = cut_down;
+    [byte, two_bytes, four_bytes, bits, 1 << 32, 1 << 63, usize::MAX - 1, usize::MAX]
+}
+
+/// Each accepted (n, k, A), short strips and a node: that profile; then a profile and a lost node, in which one of the six
+/// numbers is replaced by one far out of range.
+pub fn far_numbers(random: &mut Random) -> Vec<(Profile, (Profile, usize))> {
+    let mut numbers = Vec::new();
+    for (n, k, rows) in code::all_accepted() {
+        let accepted = Profile { s: random.between(1, 4), ..random_profile(n, k, rows, random) };
+        let Profile { t, s, .. } = accepted;
+        let lost = random.between(0, n - 1);
+        let far = [n, k, rows, t, s].map(far_from);
+        numbers.extend(far[0].map(|n| (accepted, (Profile { n, ..accepted }, lost))));
+        numbers.extend(far[1].map(|k| (accepted, (Profile { k, ..accepted }, lost))));
+        numbers.extend(far[2].map(|rows| (accepted, (Profile { rows, ..accepted }, lost))));
+        numbers.extend(far[3].map(|t| (accepted, (Profile { t, ..accepted }, lost))));
+        numbers.extend(far[4].map(|s| (accepted, (Profile { s, ..accepted }, lost))));
+        numbers.extend(far_from(lost).map(|lost| (accepted, (accepted, lost))));
+    }
+    numbers
+}
+
+/// A profile and a lost node: all of the three lists above.
 pub fn small_and_refused_numbers(random: &mut Random) -> Vec<(Profile, usize)> {
-    [small_numbers(random), numbers_in_every_order()].concat()
+    let far = far_numbers(random).into_iter().map(|(_, numbers)| numbers).collect();
+    [small_numbers(random), numbers_in_every_order(), far].concat()
 }
 
 /// A number near the edges of what is accepted, or one that a narrower type would cut down to such a number.

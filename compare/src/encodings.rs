@@ -1,6 +1,6 @@
 //! The kinds about encoding: samples, row codes, accepted and refused calls.
 
-use crate::calls::{refused_nodes_and_rows, Call, Tally, HUGE};
+use crate::calls::{far_numbers, refused_nodes_and_rows, Call, Tally, HUGE};
 use crate::code::{self, Profile, Refusal};
 use crate::library::{self, Answer, Lent};
 use crate::random::Random;
@@ -31,9 +31,10 @@ impl Case {
     fn disagreement(&self, what: String) -> String {
         let Profile { n, k, rows, t, s } = self.profile;
         let (data_length, array_length) = (self.data.len(), self.array.len());
+        let (data, array) = (hex(&self.data), hex(&self.array));
         format!(
-            "encode n={n} k={k} A={rows} t={t} S={s} data_len={data_length} data={} array_len={array_length}: {what}",
-            hex(&self.data)
+            "encode n={n} k={k} A={rows} t={t} S={s} data_len={data_length} data={data} array_len={array_length} \
+             array={array}: {what}"
         )
     }
 
@@ -168,6 +169,7 @@ pub fn encodings(random: &mut Random) -> Outcome {
     every_profile(&mut tally, random)?;
     every_small_number(&mut tally, random)?;
     refused_in_every_order(&mut tally, random)?;
+    one_number_far(&mut tally, random)?;
     mixed_calls(&mut tally, random)?;
     tally.counts("encodings accepted", "encodings refused", &[1, 2, 3, 5])
 }
@@ -186,7 +188,7 @@ fn single_bytes(tally: &mut Tally, random: &mut Random) -> Result<(), String> {
     Ok(())
 }
 
-/// Each accepted (n, k, A) with random data, each of the strip lengths and two others.
+/// Each accepted (n, k, A) with random data, each of the strip lengths and two others; then with all lengths of the buffers.
 fn every_profile(tally: &mut Tally, random: &mut Random) -> Result<(), String> {
     for (n, k, rows) in code::all_accepted() {
         let others = [random.between(1, 512), random.between(1, 512)];
@@ -195,6 +197,8 @@ fn every_profile(tally: &mut Tally, random: &mut Random) -> Result<(), String> {
             let case = Case::fitting(Profile { n, k, rows, t, s }, random);
             tally.compare(case, random)?;
         }
+        let (t, s) = (random.between(2, 255), random.between(1, 4));
+        every_length(&Profile { n, k, rows, t, s }, tally, random)?;
     }
     Ok(())
 }
@@ -272,6 +276,14 @@ fn every_length(profile: &Profile, tally: &mut Tally, random: &mut Random) -> Re
     ];
     for (data_length, array_length) in lengths {
         tally.compare(Case::new(*profile, data_length, array_length, random), random)?;
+    }
+    Ok(())
+}
+
+/// One number far out of range, and lengths that fit the numbers that it was put among.
+fn one_number_far(tally: &mut Tally, random: &mut Random) -> Result<(), String> {
+    for (accepted, (profile, _)) in far_numbers(random) {
+        tally.compare(Case::new(profile, accepted.data_length(), accepted.array_length(), random), random)?;
     }
     Ok(())
 }

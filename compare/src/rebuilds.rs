@@ -2,8 +2,8 @@
 
 use crate::bundles::{SAMPLE, SAMPLE_WANTED};
 use crate::calls::{
-    every_lost_node, every_shape, random_profile, random_scenario, replace_number, small_and_refused_numbers, small_like,
-    Call, Tally,
+    every_lost_node, every_shape, random_profile, random_scenario, replace_number, small_and_refused_numbers,
+    small_like, Call, Tally,
 };
 use crate::code::{self, Profile, Refusal};
 use crate::download::{joined, Wanted};
