@@ -3,9 +3,9 @@ use mathlib.Core.Path.{_≡_, ap, _∙_}
 use mathlib.Core.List.{List}
 use Prim.Native.Nat.{ℕ, _-_, _≤_}
 use native.Mathlib.Omega.{arith}
-use lib.ListN.{set, replicate}
+use lib.ListN.{length, getD, set, replicate, length-replicate}
 use Rattle.square.specs.Steps.{entry, filled}
-use Rattle.square.proofs.Steps.{filled-none, filled-next}
+use Rattle.square.proofs.Steps.{filled-none, filled-next, filled-length, filled-at}
 use borrow.Author.Needs.{needs}
 use Rattle.square.proofs.column_entries.Statement.{statement}
 use Rattle.square.proofs.column_entries.Tie as tie
@@ -50,7 +50,16 @@ returns c =
     let a = c .before in
     let g = a .before .args in
     let e : a .loop .i ≡ g .rows = omega arith in
-    a .loop .inv .1 ∙ ap (λ (n : ℕ). filled (λ k. entry (g .t1) k (g .column)) (replicate 80 0) n) e
+    let f : ℕ → ℕ = λ k. entry (g .t1) k (g .column) in
+    let zeros : List ℕ = replicate 80 0 in
+    let size : length (filled f zeros (a .loop .i)) ≡ 80 =
+    filled-length f zeros (a .loop .i) ∙ length-replicate {A = ℕ} 80 0 in
+    record {
+      room = omega (arith, ap length (a .loop .inv .1));
+      same = λ k h.
+          ap (λ (l : List ℕ). getD l k 0) (a .loop .inv .1)
+          ∙ filled-at f zeros (a .loop .i) k 0 (omega arith) (omega (arith, length-replicate {A = ℕ} 80 0));
+    }
 
 pub column-entries-spec : {M : Type 1} → statement M
 column-entries-spec =
