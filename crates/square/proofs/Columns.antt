@@ -19,19 +19,19 @@ use Rattle.square.specs.Steps.{noLine, lineAt, entry, filled, stepped, l
 use Rattle.square.specs.Columns.{EntriesOf}
 use Rattle.square.proofs.Steps.{filled-length, filled-rest, filled-at}
 
-none : (l : List ℕ) → length l ≡ 0 → [] ≡ l
-none [] e = refl
-none (x ∷ l) e = absurd (omega arith)
+no-entries : (l : List ℕ) → length l ≡ 0 → [] ≡ l
+no-entries [] e = refl
+no-entries (x ∷ l) e = absurd (omega arith)
 
 -- a line that is written is there, if it is as long as the one before
 pub written : (s : List Line) (r : ℕ) (y : Line) → length (y .c) ≡ length (lineAt s r) → lineAt (set s r y) r ≡ y .c
-written [] r y e = none (y .c) e
+written [] r y e = no-entries (y .c) e
 written (x ∷ s) zero y e = refl
 written (x ∷ s) (suc r) y e = written s r y e
 
 -- the same of many lines
 module _ (f : ℕ → Line) (l : List Line) (size : (i : ℕ) → length (f i .c) ≡ length (lineAt l i)) (j : ℕ) where
-  pub filled-entry : (n i : ℕ) → i < n → entry (filled f l n) i j ≡ getD (f i .c) j 0
+  filled-entry : (n i : ℕ) → i < n → entry (filled f l n) i j ≡ getD (f i .c) j 0
   unfolding filled
   filled-entry zero i h = absurd (not-suc-le-zero h)
   filled-entry (suc n) i h = go (ℕ-discrete i n) (filled-entry n i)

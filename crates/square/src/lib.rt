@@ -65,21 +65,6 @@ fn lifted_line(x: Line, y: Line, r: usize, p: usize) -> Line
     line_added(x, y, 1)
 }
 
-// The entries of a column in the lines below `rows`.
-fn column_entries(s: [Line; 80], column: usize, rows: usize) -> [u8; 80]
-    requires { ⌜ (column < 80) × (rows ≤ 80) ⌝ }
-    ensures { λ z. ⌜ EntriesOf s column rows z ⌝ }
-{
-    let mut z = [0u8; 80];
-    let mut i: usize = 0;
-    while i < rows {
-        let x = s[i];
-        z[i] = x.c[column];
-        i += 1;
-    }
-    z
-}
-
 // The first line from `from` on, below `rows`, whose entry in the column is not 0.
 fn find_pivot(entries: [u8; 80], from: usize, rows: usize) -> Pivot
     requires { ⌜ rows ≤ 80 ⌝ }
@@ -181,16 +166,23 @@ fn unit_square() -> [Line; 80]
     z
 }
 
-// The square before the first step.
+// The square before the first step, with the entries of column 0.
 fn started(s: [Line; 80], rows: usize) -> Left
     requires { ⌜ rows ≤ 80 ⌝ }
     ensures { λ z. ⌜ (z .lines ≡ s) × EntriesOf (z .lines) 0 rows (z .entries) ⌝ }
 {
-    let e = column_entries(s, 0, rows);
-    Left {
+    let zeros = [0u8; 80];
+    let mut z = Left {
         lines: s,
-        entries: e,
+        entries: zeros,
+    };
+    let mut i: usize = 0;
+    while i < rows {
+        let x = z.lines[i];
+        z.entries[i] = x.c[0];
+        i += 1;
     }
+    z
 }
 
 // The inverse of the square, or the square reduced as far as it goes.
