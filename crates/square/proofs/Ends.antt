@@ -1,15 +1,21 @@
 -- The laws of the elimination, one column at a time.
-use mathlib.Core.Path.{_≡_, refl, sym, ap₂, _∙_}
+use mathlib.Core.Path.{_≡_, refl, sym, ap, ap₂, _∙_}
+use mathlib.Core.Bool.{cond}
 use mathlib.Core.List.{List}
 use Prim.Native.Nat.{ℕ, zero, suc, _+_, _-_, _≤_, _<_}
 use native.Mathlib.Numerals.{add-one}
 use native.Mathlib.Omega.{arith}
+use lib.Dec.{eqb}
+use lib.ListN.{getD, set}
+use Rattle.gf256.specs.Field.{_⊕_, _⊗_, inverse}
 use Rattle.square.specs.declared.Line.{Line}
 use Rattle.square.specs.declared.Pivot.{Pivot}
 use Rattle.square.specs.declared.Pivot.the-variants.{At, Missing}
 use Rattle.square.specs.Steps.{stepped, lifted, multiplierAt, pivotFrom}
 use Rattle.square.specs.Elimination.{Ended, clearing, endFrom, verdictAndLines, whole, stuck}
+use Rattle.square.specs.Columns.{EntriesOf}
 use Rattle.square.proofs.Steps.{left-next, stepped-ext}
+use Rattle.square.proofs.Columns.{liftedLine, lifted-set, multiplier-of}
 
 module _ (rows r : ℕ) (a t : List Line) where
   pub end-at : (n p : ℕ) → pivotFrom a r r rows ≡ At p
@@ -27,15 +33,23 @@ module _ (rows r : ℕ) (a t : List Line) where
       ≡ clearing rows r (endFrom rows (columns - (r + 1)) (r + 1)) (lifted r p a) (lifted r p t)
   end-next columns p h e = rw (left-next r columns h) (rw (add-one r) (end-at (columns - suc r) p e))
 
-  -- a turn of the loop: the multipliers are computed from the lifted square
-  pub end-turn : (columns : ℕ) {p : ℕ} {b u a' t' : List Line} (f : ℕ → ℕ) → r < columns
-      → pivotFrom a r r rows ≡ At p → b ≡ lifted r p a → u ≡ lifted r p t
-      → ((i : ℕ) → i < rows → f i ≡ multiplierAt b r r i) → a' ≡ stepped f r b rows → t' ≡ stepped f r u rows
+  -- a turn of the loop: the multipliers are computed from the lifted line y and the entries of the others
+  pub end-turn : (columns : ℕ) {p : ℕ} {es y : List ℕ} {a' t' : List Line} (f : ℕ → ℕ) → r < columns
+      → pivotFrom a r r rows ≡ At p → EntriesOf a r rows es → y ≡ liftedLine a r p
+      → ((i : ℕ) → i < rows
+      → f i ≡ cond (eqb i r) (1 ⊕ inverse (getD y r 0)) (inverse (getD y r 0) ⊗ getD es i 0))
+      → a' ≡ stepped f r (set a r (record { c = y })) rows → t' ≡ stepped f r (lifted r p t) rows
       → endFrom rows (columns - (r + 1)) (r + 1) a' t' ≡ endFrom rows (columns - r) r a t
-  end-turn columns {p} {b} {u} f h e eb eu ef ea et =
+  end-turn columns {p} {es} {y} f h e k ey ef ea et =
       let next : List Line → List Line → Ended = endFrom rows (columns - (r + 1)) (r + 1) in
-      ap₂ next (ea ∙ stepped-ext f (multiplierAt b r r) r b rows ef) (et ∙ stepped-ext f (multiplierAt b r r) r u rows ef)
-      ∙ ap₂ (clearing rows r next) eb eu ∙ sym (end-next columns p h e)
+      let b : List Line = set a r (record { c = y }) in
+      let u : List Line = lifted r p t in
+      let same : (i : ℕ) → i < rows → f i ≡ multiplierAt b r r i =
+      λ i l. ef i l ∙ multiplier-of a r p r rows es y k ey i l in
+      ap₂ next (ea ∙ stepped-ext f (multiplierAt b r r) r b rows same) (et ∙ stepped-ext f (multiplierAt b r r) r u rows same)
+      ∙ ap (λ (x : List Line). clearing rows r next x u)
+      (ap (λ (x : List ℕ). set a r (record { c = x })) ey ∙ lifted-set a r p)
+      ∙ sym (end-next columns p h e)
 
   pub end-none : (columns : ℕ) → r < columns → pivotFrom a r r rows ≡ Missing
       → endFrom rows (columns - r) r a t ≡ stuck r a

@@ -1,3 +1,4 @@
 pub mod Steps
 pub mod Pivots
+pub mod Columns
 pub mod Ends

@@ -2,11 +2,16 @@
 // a line, since `Row` is the number of a strip's row. `rows` and `columns` say how many lines and columns count; they may
 // differ. 80 is the largest kA of an accepted profile.
 ghost use mathlib.Core.Path.{_≡_};
+ghost use mathlib.Core.Bool.{cond};
+ghost use mathlib.Core.List.{List};
 ghost use Prim.Native.Nat.{ℕ, _≤_, _<_};
-ghost use lib.ListN.{getD, replicate};
+ghost use lib.ListN.{length, getD, set};
+ghost use lib.Dec.{eqb};
+ghost use Rattle.gf256.specs.Field.{_⊕_, _⊗_, inverse};
 ghost use Rattle.strips.specs.Strips.{addedScaled};
-ghost use Rattle.square.specs.Steps.{entry, filled, stepped, lifted, multiplierAt, pivotFrom, unitLine, unitSquare};
+ghost use Rattle.square.specs.Steps.{lineAt, stepped, lifted, pivotFrom, unitLine, unitSquare};
 ghost use Rattle.square.specs.Elimination.{eliminated, verdictAndLines};
+ghost use Rattle.square.specs.Columns.{EntriesOf, Cleared};
 
 // One line: the coefficients of one equation.
 pub struct Line {
@@ -23,6 +28,13 @@ pub enum Pivot {
 pub enum Verdict {
     Regular,
     Singular(usize),
+}
+
+// The square as far as it is reduced, with the entries of the column that is next. Each function that takes the square by
+// value copies it, so the pivot is looked for and the multipliers are computed in the entries alone.
+struct Left {
+    lines: [Line; 80],
+    entries: [u8; 80],
 }
 
 // What an elimination comes to: with `Regular` the lines are those of the inverse, if rows and columns are equally many;
@@ -43,85 +55,92 @@ fn line_added(x: Line, y: Line, f: u8) -> Line
     Line { c: z }
 }
 
-// To each line i below `rows` is added c(i) times line p; a line with the multiplier 0 is left alone.
-fn step(s: [Line; 80], p: usize, c: [u8; 80], rows: usize) -> [Line; 80]
-    requires { ⌜ (p < 80) × (rows ≤ 80) ⌝ }
-    ensures { λ r. ⌜ r ≡ stepped (λ i. getD c i 0) p s rows ⌝ }
+// Line r with line p added where they are two: x is line r, y line p.
+fn lifted_line(x: Line, y: Line, r: usize, p: usize) -> Line
+    ensures { λ z. ⌜ z .c ≡ cond (eqb p r) (x .c) (addedScaled 1 0 (y .c) (x .c)) ⌝ }
 {
-    let mut z = s;
-    let y = z[p];
-    let mut i: usize = 0;
+    if p == r {
+        return x;
+    }
+    line_added(x, y, 1)
+}
+
+// The first line from `from` on, below `rows`, whose entry in the column is not 0.
+fn find_pivot(entries: [u8; 80], from: usize, rows: usize) -> Pivot
+    requires { ⌜ rows ≤ 80 ⌝ }
+    ensures { λ r. ⌜ ((s : List Line) (j : ℕ) → EntriesOf s j rows entries → r ≡ pivotFrom s j from rows) ⌝ }
+{
+    let mut i = from;
     while i < rows {
-        let f = c[i];
-        if f != 0 {
-            let x = z[i];
-            let w = line_added(x, y, f);
-            z[i] = w;
+        if entries[i] != 0 {
+            return Pivot::At(i);
         }
         i += 1;
     }
-    z
-}
-
-// Line p added to line r, where they are two.
-fn lift(s: [Line; 80], r: usize, p: usize) -> [Line; 80]
-    requires { ⌜ (r < 80) × (p < 80) ⌝ }
-    ensures { λ z. ⌜ z ≡ lifted r p s ⌝ }
-{
-    if p == r {
-        return s;
-    }
-    let mut z = s;
-    let x = z[r];
-    let y = z[p];
-    let w = line_added(x, y, 1);
-    z[r] = w;
-    z
-}
-
-// The entries of a column in the lines below `rows`, 0 past them.
-fn column_entries(s: [Line; 80], column: usize, rows: usize) -> [u8; 80]
-    requires { ⌜ (column < 80) × (rows ≤ 80) ⌝ }
-    ensures { λ z. ⌜ z ≡ filled (λ i. entry s i column) (replicate 80 0) rows ⌝ }
-{
-    let mut z = [0u8; 80];
-    let mut i: usize = 0;
-    while i < rows {
-        let x = s[i];
-        z[i] = x.c[column];
-        i += 1;
-    }
-    z
+    Pivot::Missing
 }
 
 // What each line is given of line r, so that the column has 1 there and 0 elsewhere: the entry times the inverse of the
 // pivot, and in line r itself what makes the pivot 1.
-fn multipliers(s: [Line; 80], r: usize, column: usize, rows: usize) -> [u8; 80]
-    requires { ⌜ (r < rows) × (column < 80) × (rows ≤ 80) ⌝ }
-    ensures { λ z. ⌜ ((i : ℕ) → i < rows → getD z i 0 ≡ multiplierAt s r column i) ⌝ }
+fn multipliers(entries: [u8; 80], r: usize, pivot: u8) -> [u8; 80]
+    requires { ⌜ r < 80 ⌝ }
+    ensures { λ z. ⌜ ((i : ℕ) → i < 80
+        → getD z i 0 ≡ cond (eqb i r) (1 ⊕ inverse pivot) (inverse pivot ⊗ getD entries i 0)) ⌝ }
 {
-    let entries = column_entries(s, column, rows);
-    let v = gf256::inverse(entries[r]);
+    let v = gf256::inverse(pivot);
     let mut z = [0u8; 80];
     strips::add_scaled(&mut z, 0, &entries, v);
     z[r] = 1 ^ v;
     z
 }
 
-// The first line from `from` on, below `rows`, whose entry in the column is not 0.
-fn find_pivot(s: [Line; 80], column: usize, from: usize, rows: usize) -> Pivot
-    requires { ⌜ (column < 80) × (rows ≤ 80) ⌝ }
-    ensures { λ r. ⌜ r ≡ pivotFrom s column from rows ⌝ }
+// Line r becomes y, and to each line i below `rows` is added c(i) times y; a line with the multiplier 0 is left alone.
+// Past the last column the entries are those of column 0, which nobody asks for.
+fn clear(s: Left, r: usize, y: Line, c: [u8; 80], rows: usize) -> Left
+    requires { ⌜ (r < 80) × (rows ≤ 80) × (rows ≤ length (s .entries)) ⌝ }
+    requires { ⌜ length (y .c) ≡ length (lineAt (s .lines) r) ⌝ }
+    ensures { λ z. ⌜ Cleared (λ i. getD c i 0) r rows (set (s .lines) r y) z ⌝ }
 {
-    let mut i = from;
+    let mut z = s;
+    z.lines[r] = y;
+    let next = (r + 1) % 80;
+    let mut i: usize = 0;
     while i < rows {
-        let x = s[i];
-        if x.c[column] != 0 {
-            return Pivot::At(i);
+        let u = z.lines[i];
+        let f = c[i];
+        if f != 0 {
+            let w = line_added(u, y, f);
+            z.lines[i] = w;
+            z.entries[i] = w.c[next];
+        } else {
+            z.entries[i] = u.c[next];
         }
         i += 1;
     }
-    Pivot::Missing
+    z
+}
+
+// The same for the right half, whose line r is lifted here. Nobody asks for its entries.
+fn follow(s: [Line; 80], r: usize, p: usize, c: [u8; 80], rows: usize) -> [Line; 80]
+    requires { ⌜ (r < 80) × (p < 80) × (rows ≤ 80) ⌝ }
+    ensures { λ z. ⌜ z ≡ stepped (λ i. getD c i 0) r (lifted r p s) rows ⌝ }
+{
+    let mut z = s;
+    let x = z[r];
+    let l = z[p];
+    let y = lifted_line(x, l, r, p);
+    z[r] = y;
+    let mut i: usize = 0;
+    while i < rows {
+        let f = c[i];
+        if f != 0 {
+            let u = z[i];
+            let w = line_added(u, y, f);
+            z[i] = w;
+        }
+        i += 1;
+    }
+    z
 }
 
 // Line r of the unit square.
@@ -147,27 +166,51 @@ fn unit_square() -> [Line; 80]
     z
 }
 
+// The square before the first step, with the entries of column 0.
+fn started(s: [Line; 80], rows: usize) -> Left
+    requires { ⌜ rows ≤ 80 ⌝ }
+    ensures { λ z. ⌜ (z .lines ≡ s) × EntriesOf (z .lines) 0 rows (z .entries) ⌝ }
+{
+    let zeros = [0u8; 80];
+    let mut z = Left {
+        lines: s,
+        entries: zeros,
+    };
+    let mut i: usize = 0;
+    while i < rows {
+        let x = z.lines[i];
+        z.entries[i] = x.c[0];
+        i += 1;
+    }
+    z
+}
+
 // The inverse of the square, or the square reduced as far as it goes.
 pub fn invert(s: [Line; 80], rows: usize, columns: usize) -> Eliminated
     requires { ⌜ (rows ≤ 80) × (columns ≤ 80) ⌝ }
     ensures { λ z. ⌜ z ≡ verdictAndLines (eliminated rows columns s (unitSquare 80)) ⌝ }
 {
-    let mut a = s;
+    let mut a = started(s, rows);
     let mut t = unit_square();
     let mut r: usize = 0;
     while r < columns {
-        match find_pivot(a, r, r, rows) {
+        let e = a.entries;
+        match find_pivot(e, r, rows) {
             Pivot::At(p) => {
-                let b = lift(a, r, p);
-                let u = lift(t, r, p);
-                let c = multipliers(b, r, r, rows);
-                a = step(b, r, c, rows);
-                t = step(u, r, c, rows);
+                let x = a.lines[r];
+                let l = a.lines[p];
+                let y = lifted_line(x, l, r, p);
+                let c = multipliers(e, r, y.c[r]);
+                let b = clear(a, r, y, c, rows);
+                a = b;
+                let u = follow(t, r, p, c, rows);
+                t = u;
             }
             Pivot::Missing => {
+                let lines = a.lines;
                 return Eliminated {
                     verdict: Verdict::Singular(r),
-                    lines: a,
+                    lines: lines,
                 };
             }
         }
@@ -184,14 +227,18 @@ pub fn judge(s: [Line; 80], rows: usize, columns: usize) -> Verdict
     requires { ⌜ (rows ≤ 80) × (columns ≤ 80) ⌝ }
     ensures { λ z. ⌜ z ≡ verdictAndLines (eliminated rows columns s (unitSquare 80)) .verdict ⌝ }
 {
-    let mut a = s;
+    let mut a = started(s, rows);
     let mut r: usize = 0;
     while r < columns {
-        match find_pivot(a, r, r, rows) {
+        let e = a.entries;
+        match find_pivot(e, r, rows) {
             Pivot::At(p) => {
-                let b = lift(a, r, p);
-                let c = multipliers(b, r, r, rows);
-                a = step(b, r, c, rows);
+                let x = a.lines[r];
+                let l = a.lines[p];
+                let y = lifted_line(x, l, r, p);
+                let c = multipliers(e, r, y.c[r]);
+                let b = clear(a, r, y, c, rows);
+                a = b;
             }
             Pivot::Missing => {
                 return Verdict::Singular(r);
