@@ -1,23 +1,17 @@
 -- The data nodes: they differ, a parity node is none of them, and what their weights are.
 use mathlib.Core.Path.{_≡_, sym, ap, _∙_}
 use mathlib.Core.List.{List}
-use Prim.Native.Nat.{ℕ, _+_, _*_, _≤_, _<_}
-use native.Mathlib.Decide.{ℕ-discrete}
+use Prim.Native.Nat.{ℕ, _≤_, _<_}
 use native.Mathlib.Omega.{arith}
-use lib.ListN.{length, getD, set, take, drop, replicate, length-set, length-append, length-drop, length-replicate}
-use lib.Seq.{ext-getD, getD-set-same, getD-set-other, take-append-le, drop-append-le}
+use lib.ListN.{length, getD, take}
+use lib.Seq.{ext-getD}
 use Rattle.lists.specs.Listed.{listed}
 use Rattle.lists.proofs.Listed.{listed-length, listed-at, listed-take}
-use Rattle.lists.proofs.Parts.{part-at}
 use Rattle.algebra.specs.Weight.{weight}
-use Rattle.algebra.proofs.Polynomial.{apart}
-use Rattle.algebra.proofs.Weight.{weight-at, weight-off, weight-ext}
-use Rattle.document.specs.declared.Profile.{Profile}
+use Rattle.algebra.proofs.Weight.{weight-ext}
 use Rattle.document.specs.Bytes.{bytes, byte, number}
-use Rattle.document.proofs.Bounds.{room}
-use Rattle.document.proofs.Bytes.{number-zero, number-one, points-distinct}
 use Rattle.coefficients.specs.Weights.{Different, Outside, points, weightsOf}
-use Rattle.coefficients.specs.Data.{dataNodes, dataWeights, nodeWeights, weightTable}
+use Rattle.coefficients.specs.Data.{dataNodes, dataWeights}
 use Rattle.coefficients.proofs.Lagrange.{weights-length, weights-at}
 
 data-at : (k q : ℕ) → q < k → getD (dataNodes k) q 0 ≡ q
@@ -71,56 +65,3 @@ data-weights k j =
         ∙ ap (λ (m : ℕ). number (weight bytes m (points (dataNodes k)) q (byte j))) (data-length k)
         ∙ ap number (weight-ext bytes k (points (dataNodes k)) byte q (byte j) (λ i l. ap byte (data-at k i l)) h)
         ∙ sym (data-weight k j q h)
-
-zeros : ℕ → List ℕ
-zeros k = listed k (λ b. 0)
-
--- at a data node its own weight is 1 and the others are 0
-pub unit-weights : (k j : ℕ) → k ≤ 24 → j < k → set (listed k (λ b. 0)) j 1 ≡ dataWeights k j
-unfolding zeros
-unit-weights k j few l =
-    ext-getD 0 _ _ (length-set (zeros k) j 1 ∙ size ∙ sym (data-weights-length k j))
-    (λ q h. at q (omega (arith, h, length-set (zeros k) j 1, size)) (ℕ-discrete q j))
-  where
-    size : length (zeros k) ≡ k
-    size = listed-length k _
-
-    at : (q : ℕ) → q < k → Dec (q ≡ j) → getD (set (zeros k) j 1) q 0 ≡ getD (dataWeights k j) q 0
-    at q h (yes e) =
-        rw e (getD-set-same (zeros k) j 1 0 (omega (arith, size)))
-        ∙ sym
-        (ap (λ (i : ℕ). getD (dataWeights k i) q 0) (sym e) ∙ data-weight k q q h
-        ∙ ap number (weight-at bytes byte q k (apart bytes k byte (points-distinct k (omega arith)) q h)) ∙ number-one)
-    at q h (no d) =
-        getD-set-other (zeros k) j q 1 0 d ∙ listed-at k _ q 0 h
-        ∙ sym (data-weight k j q h ∙ ap number (weight-off bytes byte q k j l (λ e. d (sym e))) ∙ number-zero)
-
-pub node-weights-length : (p : Profile) → length (nodeWeights p) ≡ p .n * p .k
-unfolding nodeWeights
-node-weights-length p = listed-length (p .n * p .k) _
-
-module _ (p : Profile) where
-  open Profile p using (n, k)
-
-  abbrev rest : List ℕ
-  rest = drop (n * k) (replicate 576 0)
-
-  pub table-length : n * k ≤ 576 → length (weightTable p) ≡ 576
-  unfolding weightTable
-  table-length h =
-      length-append (nodeWeights p) rest
-      ∙ omega (
-        arith,
-        node-weights-length p,
-        length-drop {A = ℕ} (n * k) (replicate 576 0),
-        length-replicate {A = ℕ} 576 0,
-      )
-
-  -- the weights at node j in the table
-  pub table-at : (j : ℕ) → j < n → take k (drop (j * k) (weightTable p)) ≡ dataWeights k j
-  unfolding weightTable nodeWeights
-  table-at j h =
-      let inside : j * k + k ≤ length (nodeWeights p) = omega (arith, node-weights-length p, room j n k h) in
-      ap (take k) (drop-append-le (j * k) (nodeWeights p) rest (omega arith))
-      ∙ take-append-le k (drop (j * k) (nodeWeights p)) rest (rw length-drop (omega arith))
-      ∙ part-at k (dataWeights k) n j h (data-weights-length k j)

@@ -22,7 +22,7 @@ fn put_parity(column: &mut [u8], p: Profile, input: &[u8], denominators: &[u8], 
 {
     let k = p.k;
     let mut weights = [0u8; 24];
-    coefficients::data_weights(denominators, j, &mut weights[..k]);
+    coefficients::parity_weights(denominators, j, &mut weights[..k]);
     strips::combine(column, input, 0, p.a * p.s, &weights[..k]);
 }
 

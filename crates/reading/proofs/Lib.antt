@@ -1,4 +1,6 @@
-pub mod Padded
 pub mod NodeLists
-pub mod Strips
 pub mod Answers
+pub mod Known
+pub mod Partners
+pub mod Columns
+pub mod Data

@@ -1,63 +1,90 @@
--- What the steps of reading back leave.
+-- What the steps of reading back leave. Strips are those of the named nodes' columns joined in list order, z = qA + i for
+-- row i of the q-th named node.
 --
--- lineIn p q                 : the line of the coefficients of the place q
--- zeroLines                  : an array of 80 lines of zeros
--- paddedSquare p nodes       : the coefficient square in an array of 80 lines of 80: zeros past its lines
--- paddedEnd p nodes          : how its elimination ends
--- sumFrom line x count s b   : byte b of the first `count` strips of x, of s bytes each, each times its entry of the line,
---                              added up
--- stripFrom line x count s   : the strip of s such bytes
--- addedFrom x z f y          : y with f times strip z of x added, where the strips are as long as y
--- dataBy p inverse x         : the data by the lines of an inverse: strip q of the data by line dataIndex q
--- readingAnswer p nodes x y  : what reading back in due form answers and leaves in y
+-- givenAt p nodes x b i j          : byte b of the strip that x, the joined columns, has for row i of the named node j
+-- uncoupledStrip f d own partner   : d times the sum of own and f times partner, byte by byte
+-- knownStrip p nodes x z           : what x gives of the base symbols of strip z: all of them where its partner is named,
+--                                    otherwise the stored ones
+-- knownStrips p nodes x            : the same of all strips
+-- partnerStrip p nodes y z         : the sum of the strips y of one row, with the weights at the partner of strip z
+-- partnerStrips p nodes y          : the same for each unpaired strip, in their order
+-- solvedStrip p nodes line r       : the sum of the strips r with a line of the inverse: an unpaired strip's partner
+-- completedStrip p nodes line r e y : y with it added to the e-th unpaired strip, times its factor
+-- completed p nodes lines r e y    : y with the first e unpaired strips completed so
+-- columnFrom p nodes y j           : the column of node j from the base symbols y of the named nodes
+-- columnsFrom p nodes y            : those of the data nodes
+-- dataBy p nodes lines x           : the data, by the lines of the inverse of the small system
+-- readingAnswer p nodes x y        : what reading back in due form answers and leaves in y
 use mathlib.Core.Bool.{cond}
 use mathlib.Core.List.{List}
-use Prim.Native.Nat.{ℕ, _+_, _*_}
-use lib.ListN.{length, getD, replicate}
+use Prim.Native.Nat.{ℕ, zero, suc, _+_, _*_, _/_, _%_}
+use lib.ListN.{length, getD, take}
 use Rattle.lists.specs.Listed.{listed}
-use Rattle.algebra.specs.Field.{Field}
-use Rattle.algebra.specs.Sum.{sum}
-use Rattle.strips.specs.Strips.{addedScaled, stripAt}
+use Rattle.gf256.specs.Field.{_⊕_, _⊗_}
+use Rattle.algebra.specs.Coupling.{Array}
+use Rattle.algebra.specs.Unpaired.{known}
+use Rattle.strips.specs.Strips.{combinationOf, stripAt, addedScaled}
 use Rattle.square.specs.declared.Line.{Line}
-use Rattle.square.specs.Steps.{filled, lineAt, unitSquare}
-use Rattle.square.specs.Elimination.{Ended, eliminated}
+use Rattle.square.specs.Steps.{lineAt}
 use Rattle.document.specs.declared.Profile.{Profile}
-use Rattle.document.specs.declared.Place.{Place}
 use Rattle.document.specs.declared.Refusal.the-variants.{Ambiguous}
 use Rattle.document.specs.declared.Answer.{Answer}
 use Rattle.document.specs.declared.Answer.the-variants.{Done, Refused}
-use Rattle.document.specs.Bytes.{bytes, Byte, byte, number}
-use Rattle.document.specs.Encoding.{laidOut}
-use Rattle.document.specs.Reading.{dataIndex, joinedPlace, ambiguous, dataFrom}
-use Rattle.coefficients.specs.Data.{coefficientLine}
+use Rattle.document.specs.Bytes.{bytes, byte, number}
+use Rattle.document.specs.Encoding.{factorAt}
+use Rattle.document.specs.Reading.{ambiguous, dataFrom}
+use Rattle.unpaired.specs.Unpaired.{positionIn, named, isNamed, partnerAt, unpairedStrips, unpairedAt, weightRow}
 
-infixl 70 _⊗_
-open Field bytes using (mul as _⊗_)
+unfoldable pub uncoupledStrip : ℕ → ℕ → List ℕ → List ℕ → List ℕ
+uncoupledStrip f d own partner = listed (length own) (λ b. d ⊗ (getD own b 0 ⊕ (f ⊗ getD partner b 0)))
 
-abbrev pub lineIn : Profile → Place → Line
-lineIn p q = record { c = coefficientLine p q }
+module _ (p : Profile) (nodes : List ℕ) where
+  open Profile p using (k, a as A, s as S)
 
-abbrev pub zeroLines : List Line
-zeroLines = replicate 80 (record { c = replicate 80 0 })
+  abbrev pub givenAt : List ℕ → ℕ → Array bytes
+  givenAt x b i j = byte (getD x ((positionIn nodes j * A + i) * S + b) 0)
 
-unfoldable pub paddedSquare : Profile → List ℕ → List Line
-paddedSquare p nodes = filled (λ z. lineIn p (joinedPlace p nodes z)) zeroLines (p .k * p .a)
+  unfoldable pub knownStrip : List ℕ → ℕ → List ℕ
+  knownStrip x z =
+      listed S
+      (λ b. number
+      (known bytes A k byte (factorAt p) (named nodes) (positionIn nodes) (givenAt x b) (z % A) (z / A)))
 
-abbrev pub paddedEnd : Profile → List ℕ → Ended
-paddedEnd p nodes = eliminated (p .k * p .a) (p .k * p .a) (paddedSquare p nodes) (unitSquare 80)
+  unfoldable pub knownStrips : List ℕ → List ℕ
+  knownStrips x = listed (k * A * S) (λ e. getD (knownStrip x (e / S)) (e % S) 0)
 
-unfoldable pub sumFrom : List ℕ → List ℕ → ℕ → ℕ → ℕ → Byte
-sumFrom line x count s b = sum bytes count (λ z. byte (getD line z 0) ⊗ byte (getD x (z * s + b) 0))
+  unfoldable pub partnerStrip : List ℕ → ℕ → List ℕ
+  partnerStrip y z =
+      combinationOf (weightRow k nodes (partnerAt p nodes z .node .0)) y (partnerAt p nodes z .row .0 * S) (A * S) S
 
-unfoldable pub stripFrom : List ℕ → List ℕ → ℕ → ℕ → List ℕ
-stripFrom line x count s = listed s (λ b. number (sumFrom line x count s b))
+  unfoldable pub partnerStrips : List ℕ → List ℕ
+  partnerStrips y =
+      listed (length (unpairedStrips p nodes) * S) (λ o. getD (partnerStrip y (unpairedAt p nodes (o / S))) (o % S) 0)
 
-unfoldable pub addedFrom : List ℕ → ℕ → ℕ → List ℕ → List ℕ
-addedFrom x z f y = addedScaled f 0 (stripAt x (z * length y) (length y)) y
+  unfoldable pub solvedStrip : List ℕ → List ℕ → List ℕ
+  solvedStrip line r = combinationOf (take (length (unpairedStrips p nodes)) line) r 0 S S
 
-unfoldable pub dataBy : Profile → List Line → List ℕ → List ℕ
-dataBy p inverse x =
-    laidOut p (p .k) (λ b q. sumFrom (lineAt inverse (dataIndex p q)) x (p .k * p .a) (p .s) b)
+  unfoldable pub completedStrip : List ℕ → List ℕ → ℕ → List ℕ → List ℕ
+  completedStrip line r e y =
+      let z : ℕ = unpairedAt p nodes e in
+      addedScaled (number (factorAt p (z % A) (named nodes (z / A) % A))) (z * S) (solvedStrip line r) y
 
-unfoldable pub readingAnswer : Profile → List ℕ → List ℕ → List ℕ → Answer × List ℕ
-readingAnswer p nodes x y = cond (ambiguous p nodes) (Refused Ambiguous, y) (Done 0, dataFrom p nodes x)
+  unfoldable pub completed : List Line → List ℕ → ℕ → List ℕ → List ℕ
+  completed lines r zero y = y
+  completed lines r (suc e) y = completedStrip (lineAt lines e) r e (completed lines r e y)
+
+  unfoldable pub columnFrom : List ℕ → ℕ → List ℕ
+  columnFrom y j =
+      cond (isNamed k nodes j) (stripAt y (positionIn nodes j * (A * S)) (A * S))
+      (combinationOf (weightRow k nodes j) y 0 (A * S) (A * S))
+
+  unfoldable pub columnsFrom : List ℕ → List ℕ
+  columnsFrom y = listed (k * (A * S)) (λ e. getD (columnFrom y (e / (A * S))) (e % (A * S)) 0)
+
+  unfoldable pub dataBy : List Line → List ℕ → List ℕ
+  dataBy lines x =
+      let y : List ℕ = knownStrips x in
+      columnsFrom (completed lines (partnerStrips y) (length (unpairedStrips p nodes)) y)
+
+  unfoldable pub readingAnswer : List ℕ → List ℕ → Answer × List ℕ
+  readingAnswer x y = cond (ambiguous p nodes) (Refused Ambiguous, y) (Done 0, dataFrom p nodes x)

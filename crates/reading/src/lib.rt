@@ -1,25 +1,19 @@
-// Reading back: the coefficient square of the named nodes, its inverse, and each data strip as a sum of the strips that
-// were read.
+// Reading back by pairs. Where both strips of a pair are read they give both base strips; the partners of the others solve
+// a small system. From the base strips of the named nodes follow the columns of the data nodes.
 ghost use mathlib.Core.Path.{_≡_};
-ghost use Prim.Native.Nat.{_+_, _*_, _/_, _%_, _≤_, _<_};
+ghost use Prim.Native.Nat.{_*_, _≤_, _<_};
 ghost use lib.ListN.{length};
 ghost use Rattle.ksets.specs.Sets.{Rising};
-ghost use Rattle.square.specs.Steps.{lineAt};
-ghost use Rattle.square.specs.Elimination.{verdictAndLines};
 ghost use Rattle.document.specs.Profile.{Accepted};
-ghost use Rattle.document.specs.Places.{place};
-ghost use Rattle.document.specs.Reading.{listAccepted, joinedPlace, dataIndex, readOf};
-ghost use Rattle.coefficients.specs.Data.{weightTable};
-ghost use Rattle.reading.specs.Steps.{paddedSquare, paddedEnd, stripFrom, addedFrom, dataBy, readingAnswer};
+ghost use Rattle.document.specs.Reading.{listAccepted, readOf};
+ghost use Rattle.unpaired.specs.Unpaired.{positionTable, unpairedStrips, weightTable};
+ghost use Rattle.reading.specs.Steps.{uncoupledStrip, knownStrip, knownStrips, partnerStrip, partnerStrips};
+ghost use Rattle.reading.specs.Steps.{completedStrip, completed, columnFrom, columnsFrom, dataBy, readingAnswer};
 use document::Answer;
 use document::Checked;
-use document::Node;
 use document::Numbers;
-use document::Place;
 use document::Profile;
 use document::Refusal;
-use document::Row;
-use square::Eliminated;
 use square::Line;
 use square::Verdict;
 
@@ -46,100 +40,251 @@ fn accepts_list(nodes: &[u8], n: usize, k: usize) -> bool
     true
 }
 
-// The place of strip z of the named nodes' columns.
-fn joined_place(p: Profile, nodes: &[u8], z: usize) -> Place
-    requires { ⌜ Accepted p × (length (now nodes) ≡ p .k) × (z < p .k * p .a) ⌝ }
-    ensures { λ r. ⌜ r ≡ joinedPlace p (now (nodes .entry)) z ⌝ }
+// A base strip from the two stored strips of its pair: the sum of its own and the partner's times f, divided by the
+// determinant of the pair. d is the determinant's inverse.
+fn uncouple(out: &mut [u8], own: &[u8], partner: &[u8], f: u8, d: u8)
+    requires { ⌜ (length (now out) ≤ 512) × (length (now own) ≡ length (now out))
+        × (length (now partner) ≡ length (now out)) ⌝ }
+    ensures { λ _. ⌜ now (out .exit) ≡ uncoupledStrip f d (now (own .entry)) (now (partner .entry)) ⌝ }
 {
-    let m = z / p.a;
-    Place {
-        node: Node(nodes[m] as usize),
-        row: Row(z % p.a),
-    }
+    let s = out.len();
+    let mut sum = [0u8; Profile::MAX_STRIP];
+    let mut other = [0u8; Profile::MAX_STRIP];
+    strips::copy(&mut sum[..s], own, 0);
+    strips::copy(&mut other[..s], partner, 0);
+    strips::add_multiple(&mut sum[..s], 0, &mut other[..s], f);
+    strips::fill(out, 0);
+    strips::add_scaled(out, 0, &sum[..s], d);
 }
 
-// The coefficient square of the named nodes: a line for each strip of their columns. Lines past them hold zeros.
-pub fn coefficient_square(p: Profile, table: &[u8], nodes: &[u8]) -> [Line; 80]
-    requires { ⌜ Accepted p × Rising (p .n) (p .k) (now nodes) × (now table ≡ weightTable p) ⌝ }
-    ensures { λ r. ⌜ r ≡ paddedSquare p (now (nodes .entry)) ⌝ }
+// What the columns give of the base strip z: all of it where its partner is named, otherwise the stored strip.
+fn known_strip(out: &mut [u8], p: Profile, nodes: &[u8], positions: &[u8], columns: &[u8], z: usize)
+    requires { ⌜ Accepted p × Rising (p .n) (p .k) (now nodes) × (z < p .k * p .a) ⌝ }
+    requires { ⌜ (now positions ≡ positionTable (now nodes)) × (length (now out) ≡ p .s)
+        × (length (now columns) ≡ p .k * p .a * p .s) ⌝ }
+    ensures { λ _. ⌜ now (out .exit) ≡ knownStrip p (now (nodes .entry)) (now (columns .entry)) z ⌝ }
 {
-    let count = p.k * p.a;
-    let mut s = [Line { c: [0u8; 80] }; 80];
-    let mut z: usize = 0;
-    while z < count {
-        let q = joined_place(p, nodes, z);
-        let c = coefficients::line(p, table, q);
-        s[z] = Line { c: c };
-        z += 1;
-    }
-    s
-}
-
-// Adds f times strip z of the columns; nothing where f is 0.
-fn add_strip(out: &mut [u8], columns: &[u8], z: usize, f: u8)
-    requires { ⌜ (length (now out) ≤ 512) × (z * length (now out) + length (now out) ≤ length (now columns)) ⌝ }
-    ensures { λ _. ⌜ now (out .exit) ≡ addedFrom (now (columns .entry)) z f (now (out .entry)) ⌝ }
-{
-    if f == 0 {
+    let s = p.s;
+    let q = unpaired::joined_place(p, nodes, z);
+    let r = p.partner(q);
+    let j = r.node.0;
+    let at = positions[j] as usize;
+    let own = z * s;
+    if at >= p.k {
+        strips::copy(out, columns, own);
         return;
     }
-    let from = z * out.len();
-    let end = from + out.len();
-    strips::add_scaled(out, 0, &columns[from..end], f);
+    let row = q.row;
+    let f = p.factor(row, r.row.0);
+    let g = p.factor(r.row, row.0);
+    let d = gf256::inverse(1 ^ gf256::mul(f, g));
+    let other = (at * p.a + r.row.0) * s;
+    let own_end = own + s;
+    let other_end = other + s;
+    uncouple(
+        out,
+        &columns[own..own_end],
+        &columns[other..other_end],
+        f,
+        d,
+    );
 }
 
-// One data strip: the first `count` strips of the columns, each times its coefficient, added up.
-fn put_strip(out: &mut [u8], columns: &[u8], line: [u8; 80], count: usize)
-    requires { ⌜ (length (now out) ≤ 512) × (count ≤ 80) × (count * length (now out) ≤ length (now columns)) ⌝ }
-    ensures { λ _. ⌜ now (out .exit) ≡ stripFrom line (now (columns .entry)) count (length (now (out .entry))) ⌝ }
-{
-    strips::fill(out, 0);
-    let mut z: usize = 0;
-    while z < count {
-        let f = line[z];
-        add_strip(out, columns, z, f);
-        z += 1;
-    }
-}
-
-// The line of the inverse by which data strip y is a sum of the strips that were read.
-fn inverse_line(p: Profile, inverse: [Line; 80], y: usize) -> [u8; 80]
-    requires { ⌜ Accepted p × (y < p .k * p .a) ⌝ }
-    ensures { λ r. ⌜ r ≡ lineAt inverse (dataIndex p (place (y / p .a) (y % p .a))) ⌝ }
-{
-    let q = p.place(y);
-    let e = q.row.0 * p.k + q.node.0;
-    let line = inverse[e];
-    line.c
-}
-
-// All data strips, by the lines of the inverse.
-fn put_data(out: &mut [u8], p: Profile, columns: &[u8], inverse: [Line; 80])
-    requires { ⌜ Accepted p ⌝ }
-    requires { ⌜ (length (now columns) ≡ p .k * p .a * p .s) × (length (now out) ≡ p .k * p .a * p .s) ⌝ }
-    ensures { λ _. ⌜ now (out .exit) ≡ dataBy p inverse (now (columns .entry)) ⌝ }
+// The same of all strips.
+fn known_strips(out: &mut [u8], p: Profile, nodes: &[u8], positions: &[u8], columns: &[u8])
+    requires { ⌜ Accepted p × Rising (p .n) (p .k) (now nodes) × (now positions ≡ positionTable (now nodes)) ⌝ }
+    requires { ⌜ (length (now out) ≡ p .k * p .a * p .s) × (length (now columns) ≡ p .k * p .a * p .s) ⌝ }
+    ensures { λ _. ⌜ now (out .exit) ≡ knownStrips p (now (nodes .entry)) (now (columns .entry)) ⌝ }
 {
     let s = p.s;
     let count = p.k * p.a;
-    let mut y: usize = 0;
-    while y < count {
-        let from = y * s;
+    let mut z: usize = 0;
+    while z < count {
+        let from = z * s;
         let end = from + s;
-        let line = inverse_line(p, inverse, y);
-        put_strip(&mut out[from..end], columns, line, count);
-        y += 1;
+        known_strip(&mut out[from..end], p, nodes, positions, columns, z);
+        z += 1;
     }
 }
 
-// The elimination of the named nodes' coefficient square.
-fn eliminate(p: Profile, nodes: &[u8]) -> Eliminated
-    requires { ⌜ Accepted p × Rising (p .n) (p .k) (now nodes) ⌝ }
-    ensures { λ r. ⌜ r ≡ verdictAndLines (paddedEnd p (now (nodes .entry))) ⌝ }
+// What the known strips y give of the base strip at the partner of strip z: the sum of the strips of its row, with the
+// weights at its node.
+fn partner_strip(out: &mut [u8], p: Profile, nodes: &[u8], table: &[u8], y: &[u8], z: usize)
+    requires { ⌜ Accepted p × Rising (p .n) (p .k) (now nodes) × (z < p .k * p .a) ⌝ }
+    requires { ⌜ (now table ≡ weightTable p (now nodes)) × (length (now out) ≡ p .s)
+        × (length (now y) ≡ p .k * p .a * p .s) ⌝ }
+    ensures { λ _. ⌜ now (out .exit) ≡ partnerStrip p (now (nodes .entry)) (now (y .entry)) z ⌝ }
 {
-    let count = p.k * p.a;
-    let table = coefficients::weight_table(p);
-    let s = coefficient_square(p, &table, nodes);
-    square::invert(s, count, count)
+    let k = p.k;
+    let s = p.s;
+    let r = unpaired::joined_partner(p, nodes, z);
+    let from = r.node.0 * k;
+    let end = from + k;
+    strips::combine(out, y, r.row.0 * s, p.a * s, &table[from..end]);
+}
+
+// The same for each unpaired strip.
+fn partner_strips(out: &mut [u8], p: Profile, nodes: &[u8], table: &[u8], strips: &[u8], y: &[u8])
+    requires { ⌜ Accepted p × Rising (p .n) (p .k) (now nodes) × (now table ≡ weightTable p (now nodes)) ⌝ }
+    requires { ⌜ (now strips ≡ unpairedStrips p (now nodes)) × (length (now out) ≡ length (now strips) * p .s)
+        × (length (now y) ≡ p .k * p .a * p .s) ⌝ }
+    ensures { λ _. ⌜ now (out .exit) ≡ partnerStrips p (now (nodes .entry)) (now (y .entry)) ⌝ }
+{
+    let s = p.s;
+    let mut e: usize = 0;
+    while e < strips.len() {
+        let from = e * s;
+        let end = from + s;
+        partner_strip(&mut out[from..end], p, nodes, table, y, strips[e] as usize);
+        e += 1;
+    }
+}
+
+// Completes the e-th unpaired strip: its partner is the sum of the strips r with line e of the inverse, and is added times
+// its factor.
+fn complete_strip(
+    y: &mut [u8],
+    p: Profile,
+    nodes: &[u8],
+    strips: &[u8],
+    r: &[u8],
+    line: Line,
+    e: usize,
+)
+    requires { ⌜ Accepted p × Rising (p .n) (p .k) (now nodes) × (now strips ≡ unpairedStrips p (now nodes)) ⌝ }
+    requires { ⌜ (e < length (now strips)) × (length (now y) ≡ p .k * p .a * p .s)
+        × (length (now r) ≡ length (now strips) * p .s) ⌝ }
+    ensures { λ _. ⌜ now (y .exit)
+        ≡ completedStrip p (now (nodes .entry)) (line .c) (now (r .entry)) e (now (y .entry)) ⌝ }
+{
+    let s = p.s;
+    let count = strips.len();
+    let z = strips[e] as usize;
+    let q = unpaired::joined_place(p, nodes, z);
+    let row = q.row;
+    let f = p.factor(row, q.node.0 % p.a);
+    let c = line.c;
+    let mut u = [0u8; Profile::MAX_STRIP];
+    strips::combine(&mut u[..s], r, 0, s, &c[..count]);
+    strips::add_multiple(y, z * s, &mut u[..s], f);
+}
+
+// Completes all of them.
+fn complete(y: &mut [u8], p: Profile, nodes: &[u8], strips: &[u8], r: &[u8], lines: [Line; 80])
+    requires { ⌜ Accepted p × Rising (p .n) (p .k) (now nodes) × (now strips ≡ unpairedStrips p (now nodes)) ⌝ }
+    requires { ⌜ (length (now y) ≡ p .k * p .a * p .s) × (length (now r) ≡ length (now strips) * p .s) ⌝ }
+    ensures { λ _. ⌜ now (y .exit)
+        ≡ completed p (now (nodes .entry)) lines (now (r .entry)) (length (now (strips .entry))) (now (y .entry)) ⌝ }
+{
+    let mut e: usize = 0;
+    while e < strips.len() {
+        let line = lines[e];
+        complete_strip(y, p, nodes, strips, r, line, e);
+        e += 1;
+    }
+}
+
+// The column of node j from the base strips y of the named nodes: its own where it is one of them, otherwise their sum
+// with the weights at it. Every row has the same weights, so a whole column is one strip to the row code.
+fn put_column(
+    out: &mut [u8],
+    p: Profile,
+    nodes: &[u8],
+    positions: &[u8],
+    table: &[u8],
+    y: &[u8],
+    j: usize,
+)
+    requires { ⌜ Accepted p × Rising (p .n) (p .k) (now nodes) × (j < p .n) ⌝ }
+    requires { ⌜ (now positions ≡ positionTable (now nodes)) × (now table ≡ weightTable p (now nodes))
+        × (length (now out) ≡ p .a * p .s) × (length (now y) ≡ p .k * p .a * p .s) ⌝ }
+    ensures { λ _. ⌜ now (out .exit) ≡ columnFrom p (now (nodes .entry)) (now (y .entry)) j ⌝ }
+{
+    let k = p.k;
+    let width = p.a * p.s;
+    let at = positions[j] as usize;
+    if at < k {
+        strips::copy(out, y, at * width);
+        return;
+    }
+    let from = j * k;
+    let end = from + k;
+    strips::combine(out, y, 0, width, &table[from..end]);
+}
+
+// The columns of the data nodes.
+fn put_columns(out: &mut [u8], p: Profile, nodes: &[u8], positions: &[u8], table: &[u8], y: &[u8])
+    requires { ⌜ Accepted p × Rising (p .n) (p .k) (now nodes) × (now positions ≡ positionTable (now nodes)) ⌝ }
+    requires { ⌜ (now table ≡ weightTable p (now nodes)) × (length (now out) ≡ p .k * p .a * p .s)
+        × (length (now y) ≡ p .k * p .a * p .s) ⌝ }
+    ensures { λ _. ⌜ now (out .exit) ≡ columnsFrom p (now (nodes .entry)) (now (y .entry)) ⌝ }
+{
+    let k = p.k;
+    let width = p.a * p.s;
+    let mut j: usize = 0;
+    while j < k {
+        let from = j * width;
+        let end = from + width;
+        put_column(&mut out[from..end], p, nodes, positions, table, y, j);
+        j += 1;
+    }
+}
+
+// The data, by the lines of the inverse of the small system. The strips of the named nodes stand in y; the partners' strips
+// stand in the output until the columns are written over them.
+fn put_by(
+    out: &mut [u8],
+    y: &mut [u8],
+    p: Profile,
+    nodes: &[u8],
+    positions: &[u8],
+    table: &[u8],
+    strips: &[u8],
+    columns: &[u8],
+    lines: [Line; 80],
+)
+    requires { ⌜ Accepted p × Rising (p .n) (p .k) (now nodes) × (now positions ≡ positionTable (now nodes)) ⌝ }
+    requires { ⌜ (now table ≡ weightTable p (now nodes)) × (now strips ≡ unpairedStrips p (now nodes)) ⌝ }
+    requires { ⌜ (length (now columns) ≡ p .k * p .a * p .s) × (length (now out) ≡ p .k * p .a * p .s)
+        × (length (now y) ≡ p .k * p .a * p .s) ⌝ }
+    ensures { λ _. ⌜ now (out .exit) ≡ dataBy p (now (nodes .entry)) lines (now (columns .entry)) ⌝ }
+{
+    let partners = strips.len() * p.s;
+    known_strips(y, p, nodes, positions, columns);
+    partner_strips(&mut out[..partners], p, nodes, table, strips, y);
+    complete(y, p, nodes, strips, &out[..partners], lines);
+    put_columns(out, p, nodes, positions, table, y);
+}
+
+// The same, with room for the strips of the named nodes.
+fn put_data(
+    out: &mut [u8],
+    p: Profile,
+    nodes: &[u8],
+    positions: &[u8],
+    table: &[u8],
+    strips: &[u8],
+    columns: &[u8],
+    lines: [Line; 80],
+)
+    requires { ⌜ Accepted p × Rising (p .n) (p .k) (now nodes) × (now positions ≡ positionTable (now nodes)) ⌝ }
+    requires { ⌜ (now table ≡ weightTable p (now nodes)) × (now strips ≡ unpairedStrips p (now nodes)) ⌝ }
+    requires { ⌜ (length (now columns) ≡ p .k * p .a * p .s) × (length (now out) ≡ p .k * p .a * p .s) ⌝ }
+    ensures { λ _. ⌜ now (out .exit) ≡ dataBy p (now (nodes .entry)) lines (now (columns .entry)) ⌝ }
+{
+    let size = out.len();
+    let mut y = [0u8; 40960];
+    put_by(
+        out,
+        &mut y[..size],
+        p,
+        nodes,
+        positions,
+        table,
+        strips,
+        columns,
+        lines,
+    );
 }
 
 // Reads back from nodes and columns in due form. Whether it is refused is known before a byte is written.
@@ -149,13 +294,27 @@ fn read_from(p: Profile, nodes: &[u8], columns: &[u8], output: &mut [u8]) -> Ans
     ensures { λ r. ⌜ (r, now (output .exit))
         ≡ readingAnswer p (now (nodes .entry)) (now (columns .entry)) (now (output .entry)) ⌝ }
 {
-    let e = eliminate(p, nodes);
+    let positions = unpaired::positions(nodes);
+    let mut strips = [0u8; 80];
+    let count = unpaired::list_unpaired(&mut strips, p, nodes, &positions);
+    let table = unpaired::weight_table(p, nodes, &positions);
+    let s = unpaired::reduced_square(p, nodes, &table, &strips[..count]);
+    let e = square::invert(s, count, count);
     let verdict = e.verdict;
     match verdict {
         Verdict::Singular(_) => Answer::Refused(Refusal::Ambiguous),
         Verdict::Regular => {
             let lines = e.lines;
-            put_data(output, p, columns, lines);
+            put_data(
+                output,
+                p,
+                nodes,
+                &positions,
+                &table,
+                &strips[..count],
+                columns,
+                lines,
+            );
             Answer::Done(0)
         }
     }

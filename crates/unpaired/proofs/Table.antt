@@ -6,10 +6,12 @@ use mathlib.Core.List.{List, _++_}
 use Prim.Native.Nat.{ℕ, _+_, _*_, _/_, _%_, _≤_, _<_}
 use native.Mathlib.Omega.{arith}
 use lib.Arith.{digits-lt, digits-div, digits-mod}
-use lib.ListN.{length, getD, drop, replicate, length-append, length-drop, length-replicate, List·getD-append}
+use lib.ListN.{length, getD, take, drop, replicate, length-append, length-drop, length-replicate, List·getD-append}
+use lib.Seq.{take-append-le, drop-append-le}
 use borrow.Author.Tests.{lt-ltb, le-ltb, ltb-false}
 use Rattle.lists.specs.Listed.{listed}
 use Rattle.lists.proofs.Listed.{listed-length, listed-at}
+use Rattle.lists.proofs.Parts.{part-at}
 use Rattle.ksets.specs.Sets.{Rising}
 use Rattle.ksets.proofs.Ranked.{risen-length}
 use Rattle.algebra.specs.Weight.{weight}
@@ -17,7 +19,7 @@ use Rattle.algebra.specs.Unpaired.{weightAt}
 use Rattle.document.specs.declared.Profile.{Profile}
 use Rattle.document.specs.Profile.{Accepted}
 use Rattle.document.specs.Bytes.{bytes, byte, number}
-use Rattle.document.proofs.Bounds.{table-bound}
+use Rattle.document.proofs.Bounds.{room, table-bound}
 use Rattle.coefficients.specs.Weights.{Different, Outside, points, weightsOf}
 use Rattle.coefficients.proofs.Lagrange.{weights-length, weights-at}
 use Rattle.unpaired.specs.Unpaired.{positionIn, named, isNamed, weightRow, nodeWeights, weightTable}
@@ -89,3 +91,12 @@ module _ (p : Profile) (acc : Accepted p) (nodes : List ℕ) (rises : Rising (p 
     where
       inside : j * k + q < n * k
       inside = digits-lt h l
+
+  -- the weights at node j in the table
+  pub row-at : (j : ℕ) → j < n → take k (drop (j * k) (weightTable p nodes)) ≡ weightRow k nodes j
+  unfolding weightTable nodeWeights
+  row-at j h =
+      let inside : j * k + k ≤ length (nodeWeights p nodes) = omega (arith, node-weights-length, room j n k h) in
+      ap (take k) (drop-append-le (j * k) (nodeWeights p nodes) (drop (n * k) (replicate 576 0)) (omega arith))
+      ∙ take-append-le k (drop (j * k) (nodeWeights p nodes)) (drop (n * k) (replicate 576 0)) (rw length-drop (omega arith))
+      ∙ part-at k (weightRow k nodes) n j h (row-length k nodes j size)

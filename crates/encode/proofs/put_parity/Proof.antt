@@ -22,14 +22,14 @@ few s = omega (arith, s .pre .0 .0 .shape)
 array-borrow-prefix-weights : tie.Need-array-borrow-prefix-weights
 array-borrow-prefix-weights c = few (c .before .before .before)
 
-slice-aggregate-data-weights : tie.Need-slice-aggregate-data-weights
-slice-aggregate-data-weights c = sym (length-take-le _ _ (array-borrow-prefix-weights (c .before)))
+slice-aggregate-parity-weights : tie.Need-slice-aggregate-parity-weights
+slice-aggregate-parity-weights c = sym (length-take-le _ _ (array-borrow-prefix-weights (c .before)))
 
-data-weights-requires : tie.Need-data-weights-requires
-data-weights-requires c κs =
+parity-weights-requires : tie.Need-parity-weights-requires
+parity-weights-requires c κs =
     let s = c .before .before .before .before in
-    let e = slice-aggregate-data-weights c in (
-      (omega (arith, few s), omega (arith, s .pre .0 .2, s .pre .0 .0 .shape .few-nodes)),
+    let e = slice-aggregate-parity-weights c in (
+      (omega (arith, few s), omega (arith, e, s .pre .0 .1), omega (arith, s .pre .0 .2, s .pre .0 .0 .shape .few-nodes)),
       s .pre .1 .1 ∙ ap dataDenominators e,
     )
 
@@ -37,28 +37,28 @@ mul-combine : tie.Need-mul-combine
 mul-combine c = search needs
 
 -- the part of the array that was lent holds the weights
-module _ (c : tie.After-data-weights) where
+module _ (c : tie.After-parity-weights) where
   abbrev start : tie.Start
   start = c .before .before .before .before .before
 
   abbrev k : ℕ
   k = start .args .p .k
 
-  weights : c .data-weights .last .1 .1 .0 ≡ dataWeights k (start .args .j)
+  weights : c .parity-weights .last .1 .1 .0 ≡ dataWeights k (start .args .j)
   weights =
-      c .data-weights .ensures
-      ∙ ap (λ (m : ℕ). dataWeights m (start .args .j)) (sym (slice-aggregate-data-weights (c .before)))
+      c .parity-weights .ensures
+      ∙ ap (λ (m : ℕ). dataWeights m (start .args .j)) (sym (slice-aggregate-parity-weights (c .before)))
 
-  written : length (c .data-weights .last .1 .1 .0) ≡ k
+  written : length (c .parity-weights .last .1 .1 .0) ≡ k
   written = ap length weights ∙ data-weights-length k (start .args .j)
 
-  lent : take k (c .data-weights .last .1 .1 .0 ++ drop k (replicate 24 0)) ≡ dataWeights k (start .args .j)
-  lent = front (c .data-weights .last .1 .1 .0) _ written ∙ weights
+  lent : take k (c .parity-weights .last .1 .1 .0 ++ drop k (replicate 24 0)) ≡ dataWeights k (start .args .j)
+  lent = front (c .parity-weights .last .1 .1 .0) _ written ∙ weights
 
 array-share-prefix-weights : tie.Need-array-share-prefix-weights
 array-share-prefix-weights c =
     let w = c .before .before .before in
-    front-fits (w .data-weights .last .1 .1 .0) _ (written w)
+    front-fits (w .parity-weights .last .1 .1 .0) _ (written w)
 
 slice-aggregate-combine : tie.Need-slice-aggregate-combine
 slice-aggregate-combine c = sym (length-take-le _ _ (array-share-prefix-weights (c .before)))
@@ -94,8 +94,8 @@ put-parity-spec =
     tie.close
     (tie.spec
     array-borrow-prefix-weights
-    slice-aggregate-data-weights
-    data-weights-requires
+    slice-aggregate-parity-weights
+    parity-weights-requires
     mul-combine
     array-share-prefix-weights
     slice-aggregate-combine

@@ -1,17 +1,89 @@
--- `reading::read_from` meets its contract: the verdict decides, and the inverse gives the data.
-use mathlib.Core.Path.{sym, ap, _∙_}
+-- `reading::read_from` meets its contract: the verdict on the small system decides, and its inverse gives the data.
+use mathlib.Core.Path.{_≡_, sym, ap, ap₂, _∙_}
 use mathlib.Core.List.{List}
-use Prim.Native.Nat.{ℕ}
+use Prim.Native.Nat.{ℕ, _≤_}
+use native.Mathlib.Omega.{arith}
 use borrow.Author.Needs.{needs}
+use lib.ListN.{length}
+use lib.Seq.{length-take-le}
+use Rattle.ksets.proofs.Ranked.{risen-length}
+use Rattle.square.specs.declared.Line.{Line}
 use Rattle.square.specs.declared.Eliminated.{Eliminated}
+use Rattle.square.specs.Steps.{unitSquare}
+use Rattle.square.specs.Elimination.{eliminated, verdictAndLines}
 use Rattle.document.specs.declared.Answer.the-variants.{Done}
+use Rattle.unpaired.specs.Unpaired.{unpairedStrips, reducedEnd}
+use Rattle.unpaired.proofs.Reduced.{few-unpaired, stuck-ambiguous, regular-inverse, regular-clear}
 use Rattle.reading.specs.Steps.{dataBy, readingAnswer}
-use Rattle.reading.proofs.Padded.{verdict-singular, verdict-regular, padded-data}
+use Rattle.reading.proofs.Data.{data-by}
 use Rattle.reading.proofs.read_from.Statement.{statement}
 use Rattle.reading.proofs.read_from.Tie as tie
 
-eliminate-requires : tie.Need-eliminate-requires
-eliminate-requires c κs = search needs
+positions-requires : tie.Need-positions-requires
+positions-requires c κs =
+    let s = c .before .before .before in
+    omega (arith, risen-length (s .pre .0 .1), s .pre .0 .0 .shape .some-parity, s .pre .0 .0 .shape .few-nodes)
+
+slice-aggregate-list-unpaired : tie.Need-slice-aggregate-list-unpaired
+slice-aggregate-list-unpaired c = search needs
+
+slice-aggregate-list-unpaired-2 : tie.Need-slice-aggregate-list-unpaired-2
+slice-aggregate-list-unpaired-2 c = search needs
+
+list-unpaired-requires : tie.Need-list-unpaired-requires
+list-unpaired-requires c κs = search needs
+
+slice-aggregate-weight-table : tie.Need-slice-aggregate-weight-table
+slice-aggregate-weight-table c = search needs
+
+weight-table-requires : tie.Need-weight-table-requires
+weight-table-requires c κs = search needs
+
+slice-aggregate-reduced-square : tie.Need-slice-aggregate-reduced-square
+slice-aggregate-reduced-square c = search needs
+
+-- past the list of the unpaired strips
+module _ (c : tie.After-list-unpaired) where
+  abbrev start : tie.Start
+  start = c .before .before .before .before .before .before .before
+
+  few : length (unpairedStrips (start .args .p) (start .args .nodes .now)) ≤ 80
+  few = few-unpaired (start .args .p) (start .args .nodes .now) (start .pre .0 .0) (start .pre .0 .1)
+
+  count : c .list-unpaired .result ≤ 80
+  count = omega (arith, few, c .list-unpaired .ensures .0)
+
+array-share-prefix-strips : tie.Need-array-share-prefix-strips
+array-share-prefix-strips c =
+    let l = c .before .before .before .before in
+    omega (arith, count l, l .list-unpaired .kept .0)
+
+slice-aggregate-reduced-square-2 : tie.Need-slice-aggregate-reduced-square-2
+slice-aggregate-reduced-square-2 c = sym (length-take-le _ _ (array-share-prefix-strips (c .before)))
+
+reduced-square-requires : tie.Need-reduced-square-requires
+reduced-square-requires c κs =
+    let w = c .before .before in
+    let l = w .before .before .before in
+    let s = start l in
+    ((s .pre .0 .0, s .pre .0 .1, w .weight-table .ensures), l .list-unpaired .ensures .1)
+
+invert-requires : tie.Need-invert-requires
+invert-requires c κs = let h = count (c .before .before .before .before .before .before) in (h, h)
+
+-- past the elimination: how that of the small system ends
+module _ (c : tie.After-invert) where
+  abbrev listed : tie.After-list-unpaired
+  listed = c .before .before .before .before .before .before .before
+
+  abbrev s : tie.Start
+  s = start listed
+
+  inverted : c .invert .result ≡ verdictAndLines (reducedEnd (s .args .p) (s .args .nodes .now))
+  inverted =
+      c .invert .ensures
+      ∙ ap₂ (λ (m : ℕ) (q : List Line). verdictAndLines (eliminated m m q (unitSquare 80)))
+      (listed .list-unpaired .ensures .0) (c .before .reduced-square .ensures)
 
 enum-told : tie.Need-enum-told
 enum-told c = search needs
@@ -19,17 +91,37 @@ enum-told c = search needs
 enum-told-2 : tie.Need-enum-told-2
 enum-told-2 c = search needs
 
+slice-aggregate-put-data : tie.Need-slice-aggregate-put-data
+slice-aggregate-put-data c = search needs
+
+slice-aggregate-put-data-2 : tie.Need-slice-aggregate-put-data-2
+slice-aggregate-put-data-2 c = search needs
+
+array-share-prefix-strips-2 : tie.Need-array-share-prefix-strips-2
+array-share-prefix-strips-2 c =
+    let i = c .before .before .before .before .before .before in
+    array-share-prefix-strips (i .before .before .before)
+
+slice-aggregate-put-data-3 : tie.Need-slice-aggregate-put-data-3
+slice-aggregate-put-data-3 c = sym (length-take-le _ _ (array-share-prefix-strips-2 (c .before)))
+
 put-data-requires : tie.Need-put-data-requires
-put-data-requires c κs = search needs
+put-data-requires c κs =
+    let i = c .before .before .before .before .before .before .before in
+    let l = listed i in
+    let w = i .before .before .before .before in
+    let t = s i in (
+      (t .pre .0 .0, t .pre .0 .1, l .before .before .before .positions .ensures),
+      ((w .weight-table .ensures, l .list-unpaired .ensures .1), (t .pre .1 .0, t .pre .1 .1)),
+    )
 
 returns : tie.Need-returns
 unfolding readingAnswer
 returns c =
-    let e = c .before .before in
-    let s = e .before .before .before .before in
-    let a = s .args in
-    let h = sym (ap (λ (r : Eliminated). r .verdict) (e .eliminate .ensures)) ∙ c .enum-told .given .1 in
-    rw (verdict-singular (a .p) (s .pre .0 .0) (a .nodes .now) _ h)
+    let i = c .before .before in
+    let t = s i in
+    let h = sym (ap (λ (r : Eliminated). r .verdict) (inverted i)) ∙ c .enum-told .given .1 in
+    rw (stuck-ambiguous (t .args .p) (t .args .nodes .now) (t .pre .0 .0) (t .pre .0 .1) _ h)
 
 same-length : tie.Need-same-length
 same-length c = search needs
@@ -38,24 +130,41 @@ returns-2 : tie.Need-returns-2
 unfolding readingAnswer
 returns-2 c =
     let d = c .before .before in
-    let t = d .before .before .before in
-    let e = t .before .before in
-    let s = e .before .before .before .before in
-    let a = s .args in
-    let h = sym (ap (λ (r : Eliminated). r .verdict) (e .eliminate .ensures)) ∙ t .enum-told2 .given .1 in
-    rw (verdict-regular (a .p) (s .pre .0 .0) (a .nodes .now) h)
+    let m = d .before .before .before .before .before .before in
+    let i = m .before .before in
+    let t = s i in
+    let a = t .args in
+    let known = listed i .before .before .before .before .before in
+    let h = sym (ap (λ (r : Eliminated). r .verdict) (inverted i)) ∙ m .enum-told2 .given .1 in
+    rw (regular-clear (a .p) (a .nodes .now) (t .pre .0 .0) (t .pre .0 .1) h)
     (ap (λ (y : List ℕ). (Done 0, y))
     (d .put-data .ensures
-    ∙ ap (λ (r : Eliminated). dataBy (a .p) (r .lines) (a .columns .now)) (e .eliminate .ensures)
-    ∙ padded-data (a .p) (s .pre .0 .0) (a .nodes .now) (a .columns .now) h))
+    ∙ ap (λ (r : Eliminated). dataBy (a .p) (a .nodes .now) (r .lines) (a .columns .now)) (inverted i)
+    ∙ data-by (a .p) (t .pre .0 .0) (a .nodes .now) (t .pre .0 .1) _
+    (regular-inverse (a .p) (a .nodes .now) (t .pre .0 .0) (t .pre .0 .1) h) (a .columns .now) (t .pre .1 .0)
+    (λ e l. omega (arith, known .shared-slice-known2 .given e))))
 
 pub read-from-spec : {M : Type 1} → statement M
 read-from-spec =
     tie.close
     (tie.spec
-    eliminate-requires
+    positions-requires
+    slice-aggregate-list-unpaired
+    slice-aggregate-list-unpaired-2
+    list-unpaired-requires
+    slice-aggregate-weight-table
+    weight-table-requires
+    slice-aggregate-reduced-square
+    array-share-prefix-strips
+    slice-aggregate-reduced-square-2
+    reduced-square-requires
+    invert-requires
     enum-told
     enum-told-2
+    slice-aggregate-put-data
+    slice-aggregate-put-data-2
+    array-share-prefix-strips-2
+    slice-aggregate-put-data-3
     put-data-requires
     returns
     same-length

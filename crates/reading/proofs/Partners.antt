@@ -1,0 +1,62 @@
+-- The partners of the unpaired strips: how long the strips are, where those of a row lie, and how they are completed.
+use mathlib.Core.Path.{_≡_, refl}
+use mathlib.Core.List.{List}
+use Prim.Native.Nat.{ℕ, _+_, _*_, _≤_, _<_}
+use native.Mathlib.Nat.{add-mul, mul-assoc, mul-le-mul}
+use native.Mathlib.Numerals.{add-one}
+use native.Mathlib.Omega.{arith}
+use lib.Arith.{digits-lt}
+use lib.ListN.{length}
+use Rattle.lists.proofs.Listed.{listed-length}
+use Rattle.ksets.specs.Sets.{Rising}
+use Rattle.strips.specs.Strips.{combinationOf}
+use Rattle.square.specs.declared.Line.{Line}
+use Rattle.square.specs.Steps.{lineAt}
+use Rattle.document.specs.declared.Profile.{Profile}
+use Rattle.document.specs.Profile.{Accepted}
+use Rattle.document.specs.Places.{Within}
+use Rattle.document.proofs.Bounds.{room, partner-within}
+use Rattle.document.proofs.Reading.{joined-within}
+use Rattle.unpaired.specs.Unpaired.{partnerAt, unpairedStrips, unpairedAt}
+use Rattle.unpaired.proofs.Symbols.{unpaired-each}
+use Rattle.unpaired.proofs.Reduced.{few-unpaired}
+use Rattle.reading.specs.Steps.{partnerStrip, solvedStrip, completedStrip, completed}
+
+pub partner-length : (p : Profile) (nodes y : List ℕ) (z : ℕ) → length (partnerStrip p nodes y z) ≡ p .s
+unfolding partnerStrip combinationOf
+partner-length p nodes y z = listed-length (p .s) _
+
+pub solved-length : (p : Profile) (nodes line r : List ℕ) → length (solvedStrip p nodes line r) ≡ p .s
+unfolding solvedStrip combinationOf
+solved-length p nodes line r = listed-length (p .s) _
+
+-- the strips completed one by one
+module _ (p : Profile) (nodes : List ℕ) (lines : List Line) (r y : List ℕ) where
+  pub completed-none : y ≡ completed p nodes lines r 0 y
+  unfolding completed
+  completed-none = refl
+
+  pub completed-next : (e : ℕ)
+      → completedStrip p nodes (lineAt lines e) r e (completed p nodes lines r e y) ≡ completed p nodes lines r (e + 1) y
+  unfolding completed
+  completed-next e = rw (add-one e)
+
+module _ (p : Profile) (acc : Accepted p) (nodes : List ℕ) (rises : Rising (p .n) (p .k) nodes) where
+  open Profile p using (n, k, a as A, s as S)
+
+  abbrev U : ℕ
+  U = length (unpairedStrips p nodes)
+
+  -- the strip of row i in column q
+  pub strip-fits : (i q : ℕ) → i < A → q < k → i * S + q * (A * S) + S ≤ k * A * S
+  strip-fits i q h l =
+      omega (arith, room (q * A + i) (k * A) S (digits-lt l h), add-mul (q * A) i S, mul-assoc q A S)
+
+  pub joined-partner-within : (z : ℕ) → z < k * A → Within p (partnerAt p nodes z)
+  joined-partner-within z h = partner-within p acc _ (joined-within p acc nodes rises z h)
+
+  pub unpaired-below : (e : ℕ) → e < U → unpairedAt p nodes e < k * A
+  unpaired-below e h = unpaired-each p nodes acc rises e h .1
+
+  pub partners-bound : U * S ≤ 40960
+  partners-bound = mul-le-mul {n₁ = U} {m₁ = S} {n₂ = 80} {m₂ = 512} (few-unpaired p nodes acc rises) (acc .short)

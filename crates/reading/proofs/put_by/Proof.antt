@@ -1,0 +1,162 @@
+-- `reading::put_by` meets its contract: each step leaves what the next is lent.
+use mathlib.Core.Path.{_≡_, sym, ap, ap₂, _∙_}
+use mathlib.Core.Bool.{not}
+use mathlib.Core.List.{List, _++_}
+use Prim.Native.Nat.{ℕ, _*_, _≤_}
+use native.Mathlib.Nat.{mul-le-mul-right}
+use native.Mathlib.Omega.{arith}
+use borrow.Author.Needs.{needs}
+use lib.ListN.{length, take, drop, length-append, length-drop}
+use lib.Seq.{length-take-le}
+use Rattle.lists.proofs.Lent.{front-fits, front}
+use Rattle.lists.proofs.Listed.{listed-length}
+use Rattle.lists.proofs.Rising.{rising-length}
+use Rattle.document.specs.declared.Profile.{Profile}
+use Rattle.document.proofs.Bounds.{data-bound}
+use Rattle.unpaired.specs.Unpaired.{isNamed, partnerAt, unpairedStrips}
+use Rattle.reading.specs.Steps.{knownStrips, partnerStrips, completed, columnsFrom, dataBy}
+use Rattle.reading.proofs.put_by.Statement.{statement}
+use Rattle.reading.proofs.put_by.Tie as tie
+
+module _ (s : tie.Start) where
+  abbrev p : Profile
+  p = s .args .p
+
+  abbrev nodes : List ℕ
+  nodes = s .args .nodes .now
+
+  abbrev columns : List ℕ
+  columns = s .args .columns .now
+
+  -- the partners' strips are no more than all strips
+  few : length (s .args .strips .now) * p .s ≤ p .k * p .a * p .s
+  unfolding unpairedStrips
+  few =
+      let size : length (s .args .strips .now) ≡ length (unpairedStrips p nodes) = ap length (s .pre .1 .0 .1) in
+      let short = rising-length (λ z. not (isNamed (p .k) nodes (partnerAt p nodes z .node .0))) (p .k * p .a) in
+      mul-le-mul-right (p .s) (omega (arith, size, short))
+
+mul-partners : tie.Need-mul-partners
+mul-partners c =
+    let s = c .before .before .before .before .before .before .before .before in
+    omega (arith, few s, data-bound (p s) (s .pre .0 .0))
+
+known-strips-requires : tie.Need-known-strips-requires
+known-strips-requires c κs = search needs
+
+-- past the known strips
+module _ (c : tie.After-known-strips) where
+  abbrev start : tie.Start
+  start = c .before .before .before .before .before .before .before .before .before .before
+
+  -- the strips fit the output
+  room : length (start .args .strips .now) * p start .s ≤ length (start .args .out .now)
+  room = omega (arith, few start, start .pre .1 .1 .1)
+
+slice-relend-prefix-partner-strips : tie.Need-slice-relend-prefix-partner-strips
+slice-relend-prefix-partner-strips c = room (c .before .before)
+
+slice-aggregate-partner-strips : tie.Need-slice-aggregate-partner-strips
+slice-aggregate-partner-strips c = sym (length-take-le _ _ (room (c .before .before .before)))
+
+partner-strips-requires : tie.Need-partner-strips-requires
+partner-strips-requires c κs =
+    let h = c .before .before .before .before in
+    let s = start h in (
+      (s .pre .0 .0, s .pre .0 .1, s .pre .1 .0 .0),
+      (s .pre .1 .0 .1, length-take-le _ _ (room h), h .known-strips .kept .0 ∙ s .pre .1 .1 .2),
+    )
+
+-- past the partners' strips
+module _ (c : tie.After-partner-strips) where
+  abbrev known : tie.After-known-strips
+  known = c .before .before .before .before .before
+
+  abbrev begun : tie.Start
+  begun = start known
+
+  abbrev size : ℕ
+  size = length (begun .args .strips .now) * p begun .s
+
+  made : c .partner-strips .last .0 ≡ partnerStrips (p begun) (nodes begun) (knownStrips (p begun) (nodes begun) (columns begun))
+  made = c .partner-strips .ensures ∙ ap (partnerStrips (p begun) (nodes begun)) (known .known-strips .ensures)
+
+  written : length (c .partner-strips .last .0) ≡ size
+  written = c .partner-strips .kept .0 ∙ length-take-le _ _ (room known)
+
+  lent : take size (c .partner-strips .last .0 ++ drop size (begun .args .out .now)) ≡ c .partner-strips .last .0
+  lent = front (c .partner-strips .last .0) _ written
+
+  -- the output has the length that it had
+  whole : length (c .partner-strips .last .0 ++ drop size (begun .args .out .now)) ≡ p begun .k * p begun .a * p begun .s
+  whole =
+      length-append (c .partner-strips .last .0) (drop size (begun .args .out .now))
+      ∙ omega (arith, written, length-drop size (begun .args .out .now), room known, begun .pre .1 .1 .1)
+
+slice-reshare-prefix-complete : tie.Need-slice-reshare-prefix-complete
+slice-reshare-prefix-complete c =
+    let t = c .before .before .before in
+    front-fits (t .partner-strips .last .0) _ (written t)
+
+slice-aggregate-complete : tie.Need-slice-aggregate-complete
+slice-aggregate-complete c = sym (length-take-le _ _ (slice-reshare-prefix-complete (c .before)))
+
+complete-requires : tie.Need-complete-requires
+complete-requires c κs =
+    let t = c .before .before .before .before in
+    let s = begun t in (
+      (s .pre .0 .0, s .pre .0 .1, s .pre .1 .0 .1),
+      (known t .known-strips .kept .0 ∙ s .pre .1 .1 .2, ap length (lent t) ∙ written t),
+    )
+
+put-columns-requires : tie.Need-put-columns-requires
+put-columns-requires c κs =
+    let d = c .before .before .before .before in
+    let t = d .before .before .before .before .before in
+    let s = begun t in (
+      s .pre .0,
+      (
+        s .pre .1 .0 .0,
+        whole t,
+        d .complete .kept .0 ∙ known t .known-strips .kept .0 ∙ s .pre .1 .1 .2,
+      ),
+    )
+
+same-length : tie.Need-same-length
+same-length c = search needs
+
+same-length-2 : tie.Need-same-length-2
+same-length-2 c = search needs
+
+returns : tie.Need-returns
+unfolding dataBy
+returns c =
+    let e = c .before .before in
+    let d = e .before .before .before .before .before in
+    let t = d .before .before .before .before .before in
+    let s = begun t in
+    let y : List ℕ = knownStrips (p s) (nodes s) (columns s) in
+    e .put-columns .ensures
+    ∙ ap (columnsFrom (p s) (nodes s))
+    (d .complete .ensures
+    ∙ ap₂ (λ (r z : List ℕ). completed (p s) (nodes s) (s .args .lines) r (length (s .args .strips .now)) z)
+    (lent t ∙ made t) (known t .known-strips .ensures)
+    ∙ ap (λ (m : ℕ). completed (p s) (nodes s) (s .args .lines) (partnerStrips (p s) (nodes s) y) m y)
+    (ap length (s .pre .1 .0 .1)))
+
+pub put-by-spec : {M : Type 1} → statement M
+put-by-spec =
+    tie.close
+    (tie.spec
+    mul-partners
+    known-strips-requires
+    slice-relend-prefix-partner-strips
+    slice-aggregate-partner-strips
+    partner-strips-requires
+    slice-reshare-prefix-complete
+    slice-aggregate-complete
+    complete-requires
+    put-columns-requires
+    same-length
+    same-length-2
+    returns)
