@@ -34,7 +34,7 @@
  *   03 and the length 6 + s, once for each place of the plan, in its order: node, row, scenario in four bytes, the strip
  * A host that fetches the planned strips itself can put one together.
  *
- * Stack: reading back takes up to 50 KB, a survey 30 KB, a rebuild 20 KB, encoding 5 KB, the other calls less than 1 KB.
+ * Stack: reading back takes up to 75 KB, a survey 25 KB, a rebuild 20 KB, encoding 5 KB, the other calls less than 1 KB.
  */
 #ifndef WHAUPFIELD_H
 #define WHAUPFIELD_H

@@ -9,7 +9,7 @@ use lib.ListN.{length, getD}
 use Rattle.lists.specs.Listed.{listed}
 use Rattle.lists.proofs.Listed.{listed-length, listed-at, listed-ext, listed-getD}
 use Rattle.gf256.specs.Field.{_⊕_, _⊗_, inverse}
-use Rattle.gf256.proofs.Ring.{zero-add}
+use Rattle.gf256.proofs.Ring.{zero-add, one-mul}
 use Rattle.ksets.specs.Sets.{Rising}
 use Rattle.ksets.proofs.Ranked.{risen-length}
 use Rattle.algebra.specs.Unpaired.{known}
@@ -26,22 +26,48 @@ use Rattle.document.proofs.Bounds.{A>0}
 use Rattle.document.proofs.Bytes.{number-byte}
 use Rattle.unpaired.specs.Unpaired.{positionIn, named, partnerAt}
 use Rattle.unpaired.proofs.Named.{named-positions}
-use Rattle.reading.specs.Steps.{uncoupledStrip, givenAt, knownStrip}
+use Rattle.reading.specs.Steps.{multipleOf, uncoupledStrip, givenAt, knownStrip}
 
--- the steps of `uncouple`, from a strip of zeros
+-- the entries of a list
+entries : (n : ℕ) (xs : List ℕ) → length xs ≡ n → listed n (λ b. getD xs b 0) ≡ xs
+entries n xs h = ap (λ (m : ℕ). listed m (λ b. getD xs b 0)) (sym h) ∙ listed-getD 0 xs
+
+-- a strip taken once
+pub multiple-one : (d : ℕ) (strip : List ℕ) → d ≡ 1 → ((b : ℕ) → getD strip b 0 < 256) → strip ≡ multipleOf d strip
+unfolding multipleOf
+multiple-one d strip e small =
+    sym
+    (listed-ext (length strip) _ (λ b. getD strip b 0)
+    (λ b h. ap (λ (c : ℕ). c ⊗ getD strip b 0) e ∙ one-mul (getD strip b 0) (small b))
+    ∙ entries (length strip) strip refl)
+
+-- a multiple added to zeros
+pub multiple-added : (d n : ℕ) (strip : List ℕ) → length strip ≡ n
+    → addedScaled d 0 strip (listed n (λ b. 0)) ≡ multipleOf d strip
+unfolding multipleOf
+multiple-added d n strip e =
+    ap (λ (l : List ℕ). addedScaled d 0 l (listed n (λ b. 0))) (sym (entries n strip e))
+    ∙ added-listed d n (λ b. getD strip b 0) (λ b. 0)
+    ∙ listed-ext n _ (λ b. d ⊗ getD strip b 0) (λ b h. zero-add _)
+    ∙ ap (λ (m : ℕ). listed m (λ b. d ⊗ getD strip b 0)) (sym e)
+
+-- the steps of `uncouple`
 pub uncoupled : (f d n : ℕ) (own partner : List ℕ) → length own ≡ n → length partner ≡ n
-    → addedScaled d 0 (addedScaled f 0 partner own) (listed n (λ b. 0)) ≡ uncoupledStrip f d own partner
-unfolding uncoupledStrip
+    → multipleOf d (addedScaled f 0 partner own) ≡ uncoupledStrip f d own partner
+unfolding uncoupledStrip multipleOf
 uncoupled f d n own partner e g =
-    ap (λ (l : List ℕ). addedScaled d 0 l (listed n (λ b. 0)))
-    (ap₂ (addedScaled f 0) (sym (entries partner g)) (sym (entries own e))
-    ∙ added-listed f n (λ b. getD partner b 0) (λ b. getD own b 0))
-    ∙ added-listed d n (λ b. getD own b 0 ⊕ (f ⊗ getD partner b 0)) (λ b. 0)
-    ∙ listed-ext n _ (λ b. d ⊗ (getD own b 0 ⊕ (f ⊗ getD partner b 0))) (λ b h. zero-add _)
-    ∙ ap (λ (m : ℕ). listed m (λ b. d ⊗ (getD own b 0 ⊕ (f ⊗ getD partner b 0)))) (sym e)
+    ap (multipleOf d) sums
+    ∙ ap (λ (m : ℕ). listed m (λ b. d ⊗ getD (listed n sum) b 0)) (listed-length n sum)
+    ∙ listed-ext n _ (λ b. d ⊗ sum b) (λ b h. ap (λ (v : ℕ). d ⊗ v) (listed-at n sum b 0 h))
+    ∙ ap (λ (m : ℕ). listed m (λ b. d ⊗ sum b)) (sym e)
   where
-    entries : (xs : List ℕ) → length xs ≡ n → listed n (λ b. getD xs b 0) ≡ xs
-    entries xs h = ap (λ (m : ℕ). listed m (λ b. getD xs b 0)) (sym h) ∙ listed-getD 0 xs
+    sum : ℕ → ℕ
+    sum b = getD own b 0 ⊕ (f ⊗ getD partner b 0)
+
+    sums : addedScaled f 0 partner own ≡ listed n sum
+    sums =
+        ap₂ (addedScaled f 0) (sym (entries n partner g)) (sym (entries n own e))
+        ∙ added-listed f n (λ b. getD partner b 0) (λ b. getD own b 0)
 
 strip-at : (x : List ℕ) (at s b : ℕ) → b < s → getD (stripAt x at s) b 0 ≡ getD x (at + b) 0
 unfolding stripAt

@@ -2,6 +2,7 @@
 -- row i of the q-th named node.
 --
 -- givenAt p nodes x b i j          : byte b of the strip that x, the joined columns, has for row i of the named node j
+-- multipleOf d strip               : d times each byte of a strip
 -- uncoupledStrip f d own partner   : d times the sum of own and f times partner, byte by byte
 -- knownStrip p nodes x z           : what x gives of the base symbols of strip z: all of them where its partner is named,
 --                                    otherwise the stored ones
@@ -34,6 +35,9 @@ use Rattle.document.specs.Bytes.{bytes, byte, number}
 use Rattle.document.specs.Encoding.{factorAt}
 use Rattle.document.specs.Reading.{ambiguous, dataFrom}
 use Rattle.unpaired.specs.Unpaired.{positionIn, named, isNamed, partnerAt, unpairedStrips, unpairedAt, weightRow}
+
+unfoldable pub multipleOf : ℕ → List ℕ → List ℕ
+multipleOf d strip = listed (length strip) (λ b. d ⊗ getD strip b 0)
 
 unfoldable pub uncoupledStrip : ℕ → ℕ → List ℕ → List ℕ → List ℕ
 uncoupledStrip f d own partner = listed (length own) (λ b. d ⊗ (getD own b 0 ⊕ (f ⊗ getD partner b 0)))

@@ -7,7 +7,7 @@ ghost use Rattle.ksets.specs.Sets.{Rising};
 ghost use Rattle.document.specs.Profile.{Accepted};
 ghost use Rattle.document.specs.Reading.{listAccepted, readOf};
 ghost use Rattle.unpaired.specs.Unpaired.{positionTable, unpairedStrips, weightTable};
-ghost use Rattle.reading.specs.Steps.{uncoupledStrip, knownStrip, knownStrips, partnerStrip, partnerStrips};
+ghost use Rattle.reading.specs.Steps.{multipleOf, uncoupledStrip, knownStrip, knownStrips, partnerStrip, partnerStrips};
 ghost use Rattle.reading.specs.Steps.{completedStrip, completed, columnFrom, columnsFrom, dataBy, readingAnswer};
 use document::Answer;
 use document::Checked;
@@ -40,6 +40,19 @@ fn accepts_list(nodes: &[u8], n: usize, k: usize) -> bool
     true
 }
 
+// d times a strip. Strips on the diagonal of coupling come with 1, which needs no product.
+fn put_multiple(out: &mut [u8], strip: &[u8], d: u8)
+    requires { ⌜ length (now out) ≡ length (now strip) ⌝ }
+    ensures { λ _. ⌜ now (out .exit) ≡ multipleOf d (now (strip .entry)) ⌝ }
+{
+    if d == 1 {
+        strips::copy(out, strip, 0);
+        return;
+    }
+    strips::fill(out, 0);
+    strips::add_scaled(out, 0, strip, d);
+}
+
 // A base strip from the two stored strips of its pair: the sum of its own and the partner's times f, divided by the
 // determinant of the pair. d is the determinant's inverse.
 fn uncouple(out: &mut [u8], own: &[u8], partner: &[u8], f: u8, d: u8)
@@ -53,8 +66,7 @@ fn uncouple(out: &mut [u8], own: &[u8], partner: &[u8], f: u8, d: u8)
     strips::copy(&mut sum[..s], own, 0);
     strips::copy(&mut other[..s], partner, 0);
     strips::add_multiple(&mut sum[..s], 0, &mut other[..s], f);
-    strips::fill(out, 0);
-    strips::add_scaled(out, 0, &sum[..s], d);
+    put_multiple(out, &sum[..s], d);
 }
 
 // What the columns give of the base strip z: all of it where its partner is named, otherwise the stored strip.

@@ -7,10 +7,10 @@ use borrow.Author.Needs.{needs}
 use lib.ListN.{length}
 use lib.Seq.{length-take-le}
 use Rattle.lists.proofs.Lent.{front-fits, front}
-use Rattle.lists.proofs.Listed.{listed-length}
 use Rattle.strips.specs.Strips.{addedScaled}
 use Rattle.strips.proofs.Strip.{strip-all}
 use Rattle.strips.proofs.Added.{added-length}
+use Rattle.reading.specs.Steps.{multipleOf}
 use Rattle.reading.proofs.Known.{uncoupled}
 use Rattle.reading.proofs.uncouple.Statement.{statement}
 use Rattle.reading.proofs.uncouple.Tie as tie
@@ -78,9 +78,6 @@ add-multiple-requires : tie.Need-add-multiple-requires
 add-multiple-requires c κs =
     omega (arith, slice-aggregate-add-multiple (c .before), slice-aggregate-add-multiple-2 c)
 
-fill-requires : tie.Need-fill-requires
-fill-requires c κs = search needs
-
 -- the sum of the two
 module _ (c : tie.After-add-multiple) where
   abbrev copies : tie.After-copy2
@@ -102,28 +99,25 @@ module _ (c : tie.After-add-multiple) where
 
 array-share-prefix-sum : tie.Need-array-share-prefix-sum
 array-share-prefix-sum c =
-    let w = c .before .before .before .before .before .before .before in
+    let w = c .before .before .before in
     front-fits (sum w) _ (sum-size w)
 
-slice-aggregate-add-scaled : tie.Need-slice-aggregate-add-scaled
-slice-aggregate-add-scaled c = sym (length-take-le _ _ (array-share-prefix-sum (c .before)))
+slice-aggregate-put-multiple : tie.Need-slice-aggregate-put-multiple
+slice-aggregate-put-multiple c = sym (length-take-le _ _ (array-share-prefix-sum (c .before)))
 
-add-scaled-requires : tie.Need-add-scaled-requires
-add-scaled-requires c κs =
-    let d = c .before .before .before .before in
-    let w = d .before .before .before .before in
-    omega (arith, slice-aggregate-add-scaled c, ap length (d .fill .ensures) ∙ listed-length (n (copies w)) _)
+put-multiple-requires : tie.Need-put-multiple-requires
+put-multiple-requires c κs = slice-aggregate-put-multiple c
 
 same-length : tie.Need-same-length
 same-length c = search needs
 
 returns : tie.Need-returns
 returns c =
-    let d = c .before .before .before .before .before .before .before in
-    let w = d .before .before .before .before in
+    let m = c .before .before in
+    let w = m .before .before .before .before .before in
     let s = start (copies w) in
-    c .before .before .add-scaled .ensures
-    ∙ ap₂ (addedScaled (s .args .d) 0) (front (sum w) _ (sum-size w) ∙ summed w) (d .fill .ensures)
+    m .put-multiple .ensures
+    ∙ ap (multipleOf (s .args .d)) (front (sum w) _ (sum-size w) ∙ summed w)
     ∙ uncoupled (s .args .f) (s .args .d) (n (copies w)) (s .args .own .now) (s .args .partner .now) (s .pre .1)
     (s .pre .2)
 
@@ -142,9 +136,8 @@ uncouple-spec =
     array-borrow-prefix-other-2
     slice-aggregate-add-multiple-2
     add-multiple-requires
-    fill-requires
     array-share-prefix-sum
-    slice-aggregate-add-scaled
-    add-scaled-requires
+    slice-aggregate-put-multiple
+    put-multiple-requires
     same-length
     returns)
