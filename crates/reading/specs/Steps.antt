@@ -33,7 +33,8 @@ use Rattle.document.specs.declared.Answer.the-variants.{Done, Refused}
 use Rattle.document.specs.Bytes.{bytes, byte, number}
 use Rattle.document.specs.Encoding.{factorAt}
 use Rattle.document.specs.Reading.{ambiguous, dataFrom}
-use Rattle.unpaired.specs.Unpaired.{positionIn, named, isNamed, partnerAt, unpairedStrips, unpairedAt, weightRow}
+use Rattle.coefficients.specs.Weights.{positionIn}
+use Rattle.unpaired.specs.Unpaired.{named, isNamed, partnerAt, unpairedStrips, unpairedAt, weightRow}
 
 unfoldable pub uncoupledStrip : ℕ → ℕ → List ℕ → List ℕ → List ℕ
 uncoupledStrip f d own partner = listed (length own) (λ b. d ⊗ (getD own b 0 ⊕ (f ⊗ getD partner b 0)))
