@@ -2,3 +2,4 @@ pub mod Lists
 pub mod Lagrange
 pub mod Combination
 pub mod Data
+pub mod Positions

@@ -7,7 +7,8 @@ use lib.ListN.{length}
 use Rattle.lists.proofs.Listed.{listed-length}
 use Rattle.strips.specs.Strips.{combinationOf, stripAt}
 use Rattle.document.specs.declared.Profile.{Profile}
-use Rattle.unpaired.specs.Unpaired.{positionIn, isNamed, weightRow}
+use Rattle.coefficients.specs.Weights.{positionIn}
+use Rattle.unpaired.specs.Unpaired.{isNamed, weightRow}
 use Rattle.reading.specs.Steps.{columnFrom}
 
 pub column-length : (p : Profile) (nodes y : List ℕ) (j : ℕ) → length (columnFrom p nodes y j) ≡ p .a * p .s

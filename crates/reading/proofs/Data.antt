@@ -47,11 +47,10 @@ use Rattle.document.proofs.Columns.{array, nodes-distinct}
 use Rattle.document.proofs.SquareSteps.{matrix}
 use Rattle.document.proofs.Reading.{read-data, read-columns}
 use Rattle.algebra.specs.Weight.{weight}
-use Rattle.coefficients.specs.Weights.{points}
+use Rattle.coefficients.specs.Weights.{positionIn, points}
 use Rattle.coefficients.proofs.Combination.{sum-bytes}
 use Rattle.coefficients.proofs.Lagrange.{weights-at}
 use Rattle.unpaired.specs.Unpaired.{
-  positionIn,
   named,
   isNamed,
   partnerAt,

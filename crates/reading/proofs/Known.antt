@@ -24,7 +24,8 @@ use Rattle.document.specs.Bytes.{bytes, Byte, byte, number}
 use Rattle.document.specs.Encoding.{factorAt}
 use Rattle.document.proofs.Bounds.{A>0}
 use Rattle.document.proofs.Bytes.{number-byte}
-use Rattle.unpaired.specs.Unpaired.{positionIn, named, partnerAt}
+use Rattle.coefficients.specs.Weights.{positionIn}
+use Rattle.unpaired.specs.Unpaired.{named, partnerAt}
 use Rattle.unpaired.proofs.Named.{named-positions}
 use Rattle.reading.specs.Steps.{multipleOf, uncoupledStrip, givenAt, knownStrip}
 

@@ -34,7 +34,8 @@ use Rattle.document.specs.declared.Answer.the-variants.{Done, Refused}
 use Rattle.document.specs.Bytes.{bytes, byte, number}
 use Rattle.document.specs.Encoding.{factorAt}
 use Rattle.document.specs.Reading.{ambiguous, dataFrom}
-use Rattle.unpaired.specs.Unpaired.{positionIn, named, isNamed, partnerAt, unpairedStrips, unpairedAt, weightRow}
+use Rattle.coefficients.specs.Weights.{positionIn}
+use Rattle.unpaired.specs.Unpaired.{named, isNamed, partnerAt, unpairedStrips, unpairedAt, weightRow}
 
 unfoldable pub multipleOf : ℕ → List ℕ → List ℕ
 multipleOf d strip = listed (length strip) (λ b. d ⊗ getD strip b 0)

@@ -26,13 +26,14 @@ use Rattle.document.proofs.Bytes.{byte-number}
 use Rattle.document.proofs.Decides.{decides-false}
 use Rattle.document.proofs.Walks.{Sound, walk-sound}
 use Rattle.document.proofs.Chosen.{chosen-length, choice, outside, own-found}
+use Rattle.coefficients.specs.Weights.{positionIn}
+use Rattle.coefficients.proofs.Positions.{position-within, position-back}
 use Rattle.rebuild.specs.Folded.{foldedAt, foldedOf}
 use Rattle.rebuild.specs.Rows.{memberAt, rowFrom}
-use Rattle.rebuild.specs.Column.{indexIn, rowOf, rowsOf, NodesOf}
+use Rattle.rebuild.specs.Column.{rowOf, rowsOf, NodesOf}
 use Rattle.rebuild.proofs.Folded.{folded-single, folded-pair, folded-at}
 use Rattle.document.proofs.Planned.{off-is}
 use Rattle.rebuild.proofs.Row.{row-rebuilt}
-use Rattle.rebuild.proofs.Index.{index-at}
 
 pub row-length : (p : Profile) (f : Node) (own chosen src : List ℕ) (i : ℕ) → length (rowOf p f own chosen src i) ≡ p .s
 unfolding rowOf rowFrom
@@ -83,11 +84,12 @@ module _ (p : Profile) (acc : Accepted p) (f : Node) (h : f .0 < p .n) where
 
   -- ---- node i of the group stands among the others
   own-at : (i : ℕ) → i < A → i ≢ c
-      → let at = indexIn (memberAt p f i) own in
+      → let at = positionIn own (memberAt p f i) in
       (at < length own) × (getD own at 0 ≡ memberAt p f i)
   own-at i l d =
       let found = own-found p acc f h w sound i l d in
-      index-at (memberAt p f i) own (found .0) (found .1) (found .2)
+      let below = position-within own (memberAt p f i) (found .0) (found .1) (found .2) in
+      (below, position-back own (memberAt p f i) below)
 
   pub nodes-of : NodesOf p f own chosen
   nodes-of = record {
@@ -112,11 +114,11 @@ module _ (p : Profile) (acc : Accepted p) (f : Node) (h : f .0 < p .n) where
         ap byte (folded-at p f x nodes z b m l) ∙ byte-number _ ∙ ap (foldedAt p f x b) e
 
     own-strip : (i b : ℕ) → i < A → i ≢ c → b < S
-        → byte (getD strips (indexIn (memberAt p f i) own * S + b) 0) ≡ x b (rowAt A f (memberAt p f i))
+        → byte (getD strips (positionIn own (memberAt p f i) * S + b) 0) ≡ x b (rowAt A f (memberAt p f i))
     own-strip i b r d l =
         let at = own-at i r d in
-        strip-byte (indexIn (memberAt p f i) own) b (memberAt p f i) (rw length-append (omega (arith, at .0))) l
-        (List·getD-append own chosen 0 (indexIn (memberAt p f i) own) (at .0) ∙ at .1)
+        strip-byte (positionIn own (memberAt p f i)) b (memberAt p f i) (rw length-append (omega (arith, at .0))) l
+        (List·getD-append own chosen 0 (positionIn own (memberAt p f i)) (at .0) ∙ at .1)
         ∙ folded-single p f x b (memberAt p f i)
         (decides-false _ (off-is A f (memberAt p f i)) (λ t. t .0 (digits-div g r)))
 
@@ -149,6 +151,6 @@ module _ (p : Profile) (acc : Accepted p) (f : Node) (h : f .0 < p .n) where
         (λ o l.
         let r : o / S < A = div-lt-iff-lt-mul (acc .some-bytes) .1 l in
         ap (λ (row : List ℕ). getD row (o % S) 0)
-        (row-rebuilt p f (o / S) (indexIn (memberAt p f (o / S)) own) chosen strips (λ b i j. x b (place j i))
+        (row-rebuilt p f (o / S) (positionIn own (memberAt p f (o / S))) chosen strips (λ b i j. x b (place j i))
         (λ d b m. own-strip (o / S) b r d m) chosen-strip)
         ∙ listed-at S _ (o % S) 0 (mod-lt o (acc .some-bytes)))

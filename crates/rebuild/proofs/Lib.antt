@@ -3,6 +3,5 @@ pub mod Given
 pub mod Factors
 pub mod Coefficients
 pub mod Row
-pub mod Index
 pub mod Column
 pub mod Answers

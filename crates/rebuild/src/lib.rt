@@ -18,7 +18,7 @@ ghost use Rattle.gf256.specs.Field.{quotientsOf, NoZero};
 ghost use Rattle.coefficients.specs.Weights.{Different, Outside, denominatorsOf, weightsOf};
 ghost use Rattle.rebuild.specs.Rows.{memberAt, determinantAt, determinantsOf, ownScaleAt, scaleAt};
 ghost use Rattle.rebuild.specs.Rows.{coefficientsOf, rowFrom};
-ghost use Rattle.rebuild.specs.Column.{indexIn, rowOf, rowsOf, NodesOf};
+ghost use Rattle.rebuild.specs.Column.{rowOf, rowsOf, NodesOf};
 use document::Answer;
 use document::Checked;
 use document::Node;
@@ -223,20 +223,6 @@ fn sum_row(
     }
 }
 
-// Where node j stands among the nodes; their number if it does not.
-fn index_of(nodes: &[u8], j: usize) -> usize
-    ensures { λ r. ⌜ r ≡ indexIn j (now (nodes .entry)) ⌝ }
-{
-    let mut i: usize = 0;
-    while i < nodes.len() {
-        if nodes[i] as usize == j {
-            return i;
-        }
-        i += 1;
-    }
-    i
-}
-
 // Row i of the lost column, with its coefficients computed.
 fn put_row(
     dst: &mut [u8],
@@ -266,7 +252,7 @@ fn put_row(
         i,
         &mut coefficients[..k],
     );
-    let at = index_of(own, f.0 / p.a * p.a + i);
+    let at = coefficients::position_of(own, f.0 / p.a * p.a + i);
     sum_row(dst, folded, p, f, i, &coefficients[..k], at);
 }
 

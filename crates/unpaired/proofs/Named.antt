@@ -1,31 +1,17 @@
 -- The named nodes are a choice of k different nodes, and each stands at its position.
 use mathlib.Core.Path.{_≡_, refl, ap, _∙_}
-use mathlib.Core.Bool.{Bool, true, false, cond}
-use mathlib.Core.List.{List, [], _∷_}
-use Prim.Native.Nat.{ℕ, zero, suc, _+_, _≤_, _<_}
-use native.Mathlib.Decide.{ℕ-discrete}
-use native.Mathlib.Numerals.{add-one}
+use mathlib.Core.List.{List}
+use Prim.Native.Nat.{ℕ, zero, suc, _≤_, _<_}
 use native.Mathlib.Omega.{arith}
-use lib.Dec.{eqb}
-use lib.ListN.{length, getD, drop}
-use lib.Seq.{drop-cons, drop-length}
-use borrow.Author.Tests.{eq-eqb, ne-eqb}
-use Rattle.lists.specs.Listed.{listed}
+use lib.ListN.{length, getD}
 use Rattle.lists.proofs.Listed.{listed-length, listed-at}
 use Rattle.ksets.specs.Sets.{RisingFrom, none, next, Rising}
 use Rattle.algebra.specs.RowCode.{Choice}
 use Rattle.algebra.specs.Unpaired.{Positions}
 use Rattle.document.proofs.Reading.{rising-below}
-use Rattle.unpaired.specs.Unpaired.{positionIn, positionTable, named}
-
--- The cases of `positionIn`.
-pub position-here : (x : ℕ) (xs : List ℕ) (j : ℕ) → x ≡ j → positionIn (x ∷ xs) j ≡ 0
-unfolding positionIn
-position-here x xs j e = rw (eq-eqb x j e) refl
-
-pub position-later : (x : ℕ) (xs : List ℕ) (j : ℕ) → (x ≡ j → ⊥) → positionIn (x ∷ xs) j ≡ suc (positionIn xs j)
-unfolding positionIn
-position-later x xs j d = rw (ne-eqb x j d) refl
+use Rattle.coefficients.specs.Weights.{positionIn}
+use Rattle.coefficients.proofs.Positions.{position-here, position-later, position-back}
+use Rattle.unpaired.specs.Unpaired.{positionTable, named}
 
 -- Entries of a rising list are not below its first bound.
 rising-from : {n b k : ℕ} {xs : List ℕ} → RisingFrom n b k xs → (m : ℕ) → m < k → b ≤ getD xs m 0
@@ -52,45 +38,12 @@ position-there (next {x = x} {xs = xs} low high r) (suc q) h =
     let later : suc x ≤ getD xs q 0 = rising-from r q (omega arith) in
     position-later x xs (getD xs q 0) (λ e. omega arith) ∙ ap suc (position-there r q (omega arith))
 
-position-back : (xs : List ℕ) (j : ℕ) → positionIn xs j < length xs → getD xs (positionIn xs j) 0 ≡ j
-position-back [] j h = absurd (omega arith)
-position-back (x ∷ xs) j h = go (ℕ-discrete x j) (position-back xs j)
-  where
-    go : Dec (x ≡ j) → (positionIn xs j < length xs → getD xs (positionIn xs j) 0 ≡ j)
-        → getD (x ∷ xs) (positionIn (x ∷ xs) j) 0 ≡ j
-    go (yes e) more = rw (position-here x xs j e) e
-    go (no d) more =
-        let s : positionIn (x ∷ xs) j ≡ suc (positionIn xs j) = position-later x xs j d in
-        let t : suc (positionIn xs j) < suc (length xs) = rw s at h in
-        rw s (more (omega arith))
-
 pub named-positions : {n k : ℕ} {nodes : List ℕ} → Rising n k nodes → length nodes ≡ k
     → Positions k (named nodes) (positionIn nodes)
 named-positions {nodes = nodes} r e = record {
   there = position-there r;
   back = λ j h. position-back nodes j (rw e h);
 }
-
--- ---- looking for a node, entry by entry
-module _ (xs : List ℕ) (j q : ℕ) (l : q < length xs) where
-  pub found : getD xs q 0 ≡ j → positionIn (drop q xs) j ≡ 0
-  found e = rw (drop-cons xs q 0 l) (position-here _ _ j e)
-
-  pub not-found : (getD xs q 0 ≡ j → ⊥) → positionIn (drop q xs) j ≡ suc (positionIn (drop (q + 1) xs) j)
-  not-found d = rw (drop-cons xs q 0 l, add-one q) (position-later _ _ j d)
-
-pub past-all : (xs : List ℕ) (j q : ℕ) → q ≡ length xs → positionIn (drop q xs) j ≡ 0
-unfolding positionIn
-past-all xs j q e = rw (e, drop-length)
-
-pub position-le : (xs : List ℕ) (j : ℕ) → positionIn xs j ≤ length xs
-unfolding positionIn
-position-le [] j = omega arith
-position-le (x ∷ xs) j = go (eqb x j) (position-le xs j)
-  where
-    go : (b : Bool) → positionIn xs j ≤ length xs → cond b 0 (suc (positionIn xs j)) ≤ suc (length xs)
-    go true h = omega arith
-    go false h = omega arith
 
 pub table-length : (nodes : List ℕ) → length (positionTable nodes) ≡ 24
 unfolding positionTable

@@ -36,8 +36,8 @@ use Rattle.document.proofs.Bounds.{square-bound}
 use Rattle.document.proofs.Bytes.{number-lt, byte-number, number-zero, number-one, number-add}
 use Rattle.document.proofs.SquareSteps.{matrix, Shaped, unit-square}
 use Rattle.document.proofs.Squares.{singular-kernel, not-singular, regular}
+use Rattle.coefficients.specs.Weights.{positionIn}
 use Rattle.unpaired.specs.Unpaired.{
-  positionIn,
   named,
   isNamed,
   partnerAt,

@@ -40,7 +40,8 @@ use Rattle.document.proofs.Arrays.{laid-byte}
 use Rattle.document.proofs.Rows.{row-word, row-data}
 use Rattle.document.proofs.Columns.{array, coupled-code, nodes-distinct, encoded-at}
 use Rattle.document.proofs.Reading.{laid-data, data-ext, joined-byte, joined-data, joined-only, two-ambiguous, ambiguous-two}
-use Rattle.unpaired.specs.Unpaired.{positionIn, named, isNamed, partnerAt, unpairedStrips, unpairedAt, reducedAt}
+use Rattle.coefficients.specs.Weights.{positionIn}
+use Rattle.unpaired.specs.Unpaired.{named, isNamed, partnerAt, unpairedStrips, unpairedAt, reducedAt}
 use Rattle.unpaired.proofs.Named.{named-choice, named-positions}
 use Rattle.unpaired.proofs.Selected.{sum-rising}
 

@@ -20,9 +20,9 @@ use Rattle.document.specs.declared.Profile.{Profile}
 use Rattle.document.specs.Profile.{Accepted}
 use Rattle.document.specs.Bytes.{bytes, byte, number}
 use Rattle.document.proofs.Bounds.{room, table-bound}
-use Rattle.coefficients.specs.Weights.{Different, Outside, points, weightsOf}
+use Rattle.coefficients.specs.Weights.{Different, Outside, positionIn, points, weightsOf}
 use Rattle.coefficients.proofs.Lagrange.{weights-length, weights-at}
-use Rattle.unpaired.specs.Unpaired.{positionIn, named, isNamed, weightRow, nodeWeights, weightTable}
+use Rattle.unpaired.specs.Unpaired.{named, isNamed, weightRow, nodeWeights, weightTable}
 use Rattle.unpaired.proofs.Named.{named-choice, named-positions}
 
 -- the two kinds of rows

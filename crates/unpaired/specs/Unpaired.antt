@@ -1,8 +1,7 @@
 -- The strips read whose partner is not: it lies on a node that is not named. Their partners' base symbols solve a small
 -- system, and all other base symbols follow from them: see algebra/specs/Unpaired.antt.
 --
--- positionIn nodes j      : where node j stands in the list, from 0; past its end if it does not
--- positionTable nodes     : that of each node from 0 to 23
+-- positionTable nodes     : where each node from 0 to 23 stands among the nodes
 -- named nodes q           : the q-th named node
 -- isNamed k nodes j       : the test whether node j is one of the k named nodes
 -- partnerAt p nodes z     : the partner of strip z of the named nodes' columns
@@ -17,10 +16,10 @@
 -- reducedSquare p nodes   : the system in an array of 80 lines: zeros past its lines
 -- reducedEnd p nodes      : how its elimination ends
 use mathlib.Core.Bool.{Bool, not, cond}
-use mathlib.Core.List.{List, [], _∷_, _++_}
-use Prim.Native.Nat.{ℕ, suc, _*_, _/_, _%_}
+use mathlib.Core.List.{List, _++_}
+use Prim.Native.Nat.{ℕ, _*_, _/_, _%_}
 use native.Mathlib.Decide.{ℕ-discrete}
-use lib.Dec.{eqb, ltb}
+use lib.Dec.{ltb}
 use lib.ListN.{length, getD, drop, replicate}
 use Rattle.lists.specs.Listed.{listed, rising}
 use Rattle.algebra.specs.Field.{Field}
@@ -35,14 +34,10 @@ use Rattle.document.specs.Places.{partnerOf}
 use Rattle.document.specs.Bytes.{bytes, Byte, byte, number}
 use Rattle.document.specs.Encoding.{factorAt}
 use Rattle.document.specs.Reading.{joinedPlace}
-use Rattle.coefficients.specs.Weights.{weightsOf}
+use Rattle.coefficients.specs.Weights.{positionIn, weightsOf}
 
 infixl 70 _⊗_
 open Field bytes using (𝟘, mul as _⊗_)
-
-unfoldable pub positionIn : List ℕ → ℕ → ℕ
-positionIn [] j = 0
-positionIn (x ∷ xs) j = cond (eqb x j) 0 (suc (positionIn xs j))
 
 unfoldable pub positionTable : List ℕ → List ℕ
 positionTable nodes = listed 24 (positionIn nodes)

@@ -11,7 +11,7 @@ ghost use Rattle.document.specs.Places.{Within};
 ghost use Rattle.document.specs.Bytes.{number};
 ghost use Rattle.document.specs.Reading.{joinedPlace};
 ghost use Rattle.coefficients.specs.Weights.{denominatorsOf};
-ghost use Rattle.unpaired.specs.Unpaired.{positionIn, positionTable, isNamed, partnerAt, unpairedStrips, unpairedAt};
+ghost use Rattle.unpaired.specs.Unpaired.{positionTable, isNamed, partnerAt, unpairedStrips, unpairedAt};
 ghost use Rattle.unpaired.specs.Unpaired.{weightRow, nodeWeights, weightTable, relatedTo, reducedLine, reducedSquare};
 use document::Node;
 use document::Place;
@@ -19,21 +19,7 @@ use document::Profile;
 use document::Row;
 use square::Line;
 
-// Where node j stands in the list; its length if it does not.
-fn position_of(nodes: &[u8], j: usize) -> usize
-    ensures { λ r. ⌜ r ≡ positionIn (now (nodes .entry)) j ⌝ }
-{
-    let mut q: usize = 0;
-    while q < nodes.len() {
-        if nodes[q] as usize == j {
-            return q;
-        }
-        q += 1;
-    }
-    q
-}
-
-// The same of all nodes that a profile can have.
+// Where each node that a profile can have stands in the list; its length if it does not.
 pub fn positions(nodes: &[u8]) -> [u8; 24]
     requires { ⌜ length (now nodes) ≤ 24 ⌝ }
     ensures { λ r. ⌜ r ≡ positionTable (now (nodes .entry)) ⌝ }
@@ -41,7 +27,7 @@ pub fn positions(nodes: &[u8]) -> [u8; 24]
     let mut table = [0u8; 24];
     let mut j: usize = 0;
     while j < 24 {
-        let q = position_of(nodes, j);
+        let q = coefficients::position_of(nodes, j);
         table[j] = q as u8;
         j += 1;
     }

@@ -11,7 +11,8 @@ use borrow.Author.Tests.{lt-ltb, le-ltb}
 use Rattle.ksets.proofs.Ranked.{risen-length}
 use Rattle.strips.specs.Strips.{combinationOf, stripAt}
 use Rattle.document.proofs.Bounds.{room, table-bound, column-bound, data-bound}
-use Rattle.unpaired.specs.Unpaired.{positionIn, isNamed, weightRow}
+use Rattle.coefficients.specs.Weights.{positionIn}
+use Rattle.unpaired.specs.Unpaired.{isNamed, weightRow}
 use Rattle.unpaired.proofs.Named.{table-length, table-at}
 use Rattle.unpaired.proofs.Table.{row-length, row-at, weight-table-length}
 use Rattle.reading.specs.Steps.{columnFrom}

@@ -56,17 +56,17 @@ below s =
     let within = group-within (s .args .p) acc (s .args .f .0) (s .pre .0 .1) in
     omega (arith, within, s .pre .0 .2, acc .shape .few-nodes)
 
-div-index-of : tie.Need-div-index-of
-div-index-of c = search needs
+div-position-of : tie.Need-div-position-of
+div-position-of c = search needs
 
-mul-index-of : tie.Need-mul-index-of
-mul-index-of c = omega (arith, below (start (c .before .before .before .before)))
+mul-position-of : tie.Need-mul-position-of
+mul-position-of c = omega (arith, below (start (c .before .before .before .before)))
 
-add-index-of : tie.Need-add-index-of
-add-index-of c = omega (arith, below (start (c .before .before .before .before)))
+add-position-of : tie.Need-add-position-of
+add-position-of c = omega (arith, below (start (c .before .before .before .before)))
 
-index-of-requires : tie.Need-index-of-requires
-index-of-requires c κs = search needs
+position-of-requires : tie.Need-position-of-requires
+position-of-requires c κs = search needs
 
 array-share-prefix-coefficients : tie.Need-array-share-prefix-coefficients
 array-share-prefix-coefficients c =
@@ -83,7 +83,7 @@ sum-row-requires c κs =
       (s .pre .0 .0, s .pre .1 .1 .0, sym (slice-aggregate-sum-row c)),
       (
         s .pre .1 .1 .1,
-        λ d. omega (arith, at .index-of .ensures, s .pre .0 .3 .others (s .args .i) (s .pre .0 .2) d),
+        λ d. omega (arith, at .position-of .ensures, s .pre .0 .3 .others (s .args .i) (s .pre .0 .2) d),
       ),
     )
 
@@ -99,7 +99,7 @@ returns c =
     let s = start w in
     row .sum-row .ensures
     ∙ ap₂ (λ (at : ℕ) (cs : List ℕ). rowFrom (s .args .p) (s .args .f) (s .args .i) at cs (s .args .folded .now))
-    (at .index-of .ensures) (lent w)
+    (at .position-of .ensures) (lent w)
 
 pub put-row-spec : {M : Type 1} → statement M
 put-row-spec =
@@ -108,10 +108,10 @@ put-row-spec =
     array-borrow-prefix-coefficients
     slice-aggregate-row-coefficients
     row-coefficients-requires
-    div-index-of
-    mul-index-of
-    add-index-of
-    index-of-requires
+    div-position-of
+    mul-position-of
+    add-position-of
+    position-of-requires
     array-share-prefix-coefficients
     slice-aggregate-sum-row
     sum-row-requires

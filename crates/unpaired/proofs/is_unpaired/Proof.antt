@@ -10,7 +10,8 @@ use borrow.Author.Needs.{needs}
 use Rattle.document.specs.declared.Place.{Place}
 use Rattle.document.proofs.Bounds.{partner-within}
 use Rattle.document.proofs.Reading.{joined-within}
-use Rattle.unpaired.specs.Unpaired.{positionIn, partnerAt}
+use Rattle.coefficients.specs.Weights.{positionIn}
+use Rattle.unpaired.specs.Unpaired.{partnerAt}
 use Rattle.unpaired.proofs.Named.{table-length, table-at}
 use Rattle.unpaired.proofs.is_unpaired.Statement.{statement}
 use Rattle.unpaired.proofs.is_unpaired.Tie as tie

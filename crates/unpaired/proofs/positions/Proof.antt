@@ -7,8 +7,9 @@ use borrow.Author.Needs.{needs}
 use lib.ListN.{length, set, replicate, length-replicate}
 use Rattle.square.specs.Steps.{filled}
 use Rattle.square.proofs.Steps.{filled-none, filled-next, filled-all}
-use Rattle.unpaired.specs.Unpaired.{positionIn, positionTable}
-use Rattle.unpaired.proofs.Named.{position-le}
+use Rattle.coefficients.specs.Weights.{positionIn}
+use Rattle.coefficients.proofs.Positions.{position-le}
+use Rattle.unpaired.specs.Unpaired.{positionTable}
 use Rattle.unpaired.proofs.positions.Statement.{statement}
 use Rattle.unpaired.proofs.positions.Tie as tie
 

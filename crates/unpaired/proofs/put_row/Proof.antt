@@ -7,8 +7,7 @@ use borrow.Author.Needs.{needs}
 use lib.ListN.{length, getD}
 use Rattle.lists.specs.Listed.{listed}
 use Rattle.ksets.proofs.Ranked.{risen-length}
-use Rattle.coefficients.specs.Weights.{denominatorsOf}
-use Rattle.unpaired.specs.Unpaired.{positionIn}
+use Rattle.coefficients.specs.Weights.{positionIn, denominatorsOf}
 use Rattle.unpaired.proofs.Named.{table-length, table-at}
 use Rattle.unpaired.proofs.Table.{row-named, row-other, nodes-different, other-outside}
 use Rattle.unpaired.proofs.put_row.Statement.{statement}

@@ -1,13 +1,13 @@
--- `unpaired::position_of` meets its contract. The invariant: the node is none of the first q.
+-- `coefficients::position_of` meets its contract. The invariant: the node is none of the first q.
 use mathlib.Core.Path.{_≡_, ap, _∙_}
 use Prim.Native.Nat.{ℕ, _+_, _-_, _≤_}
 use native.Mathlib.Omega.{arith}
 use borrow.Author.Needs.{needs}
 use lib.ListN.{length, drop}
-use Rattle.unpaired.specs.Unpaired.{positionIn}
-use Rattle.unpaired.proofs.Named.{found, not-found, past-all}
-use Rattle.unpaired.proofs.position_of.Statement.{statement}
-use Rattle.unpaired.proofs.position_of.Tie as tie
+use Rattle.coefficients.specs.Weights.{positionIn}
+use Rattle.coefficients.proofs.Positions.{found, not-found, past-all}
+use Rattle.coefficients.proofs.position_of.Statement.{statement}
+use Rattle.coefficients.proofs.position_of.Tie as tie
 
 abbrev Inv-loop : tie.InvT-loop
 Inv-loop nodes j q₀ q = (q ≤ length nodes) × (positionIn nodes j ≡ q + positionIn (drop q nodes) j)
