@@ -11,4 +11,4 @@ pub mod Rows
 pub mod Needed
 pub mod Square
 pub mod Elimination
-pub mod Unpaired
+pub mod HalfPairs

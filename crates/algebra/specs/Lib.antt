@@ -9,4 +9,4 @@ pub mod Encoding
 pub mod Rebuild
 pub mod Rows
 pub mod Square
-pub mod Unpaired
+pub mod HalfPairs

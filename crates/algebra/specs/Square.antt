@@ -10,7 +10,7 @@
 -- Step K m w p c M N  : N comes from M by adding c i times row p to each row i
 -- Reached K m w M N T : N and T come from M and the unit matrix of m rows by the same row steps
 -- Reduced K r m M     : the first r columns of M, of m ≥ r rows, are those of the unit matrix
--- multiplier K r M   : the multiples of row r by which a step makes column r that of the unit matrix
+-- multiplier K r M i  : the multiple of row r that a step adds to row i, to make column r that of the unit matrix
 use mathlib.Core.Path.{_≡_}
 use mathlib.Core.Logic.{_≢_}
 use Prim.Native.Nat.{ℕ, _<_}

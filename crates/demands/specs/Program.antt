@@ -1,7 +1,10 @@
 -- The small program is an entry point too: 'Any bytes, any numbers, any time: every entry point answers'. What it
 -- writes, by the table of a rebuild.
 --
--- wanted, node, recording, bundle : what the input says is wanted, and the bundle that follows
+-- wanted input        : the profile that the input says is wanted
+-- node input          : the node
+-- recording input     : the recording
+-- bundle input        : the bundle that follows
 -- lent input          : the column that the program lends to the rebuild
 -- table input         : the table of that rebuild
 -- ProgramWrites input : the column where the rebuild is not refused, otherwise the line of the first refusal, never of 5

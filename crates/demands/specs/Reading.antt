@@ -1,10 +1,10 @@
 -- Demand 2, the rest: 'Reading back from k named drives returns the only data whose array has those columns. A request in
 -- due form is refused exactly when some two different data sets give equal columns on those drives.'
 --
--- InDueForm p nodes x y  : the request is in due form: profile, list and lengths
--- OnlyData p nodes x d   : d are data whose array has the columns x on the named nodes, and no other data have them
+-- InDueForm p nodes x y     : the request is in due form: profile, list and lengths
+-- OnlyData p nodes x d      : d are data whose array has the columns x on the named nodes, and no other data have them
 -- ReadsOnlyData p nodes x y : what demand 2 says of one call, for the columns x and the buffer y
--- Demand2Reading         : for all numbers, lists and bytes. Shown in proofs/Demand2Reading.antt: demand-2-reading
+-- Demand2Reading            : for all numbers, lists and bytes. Shown in proofs/Demand2Reading.antt: demand-2-reading
 --
 -- The words it uses, from document/specs/Reading.antt and, the last, ksets/specs/Sets.antt:
 -- joinedColumns p nodes x : the columns of the array x at the named nodes, joined in list order

@@ -6,7 +6,9 @@
 -- profileContent p       : the content of field 01
 -- lostContent f r        : the content of field 02
 -- stripContent q r strip : the content of field 03 for the place q
--- profileContentLength, lostContentLength, stripContentLength S : how long these contents are
+-- profileContentLength   : how long the content of field 01 is
+-- lostContentLength      : the same of field 02
+-- stripContentLength S   : the same of field 03
 -- headLength             : the length of fields 01 and 02 together, tags and lengths counted in
 -- stripFieldLength S     : the length of a field 03
 -- bundleLength p f       : the length of a bundle

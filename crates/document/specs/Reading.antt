@@ -4,7 +4,7 @@
 -- coefficientAt p q r       : by what the data symbol at the place r is multiplied in the symbol stored at q
 -- dataPlace p e             : the place of data symbol e, counted row by row
 -- dataIndex p q             : the number of the data symbol at the place q, counted so
--- namedPlace p nodes q      : the place of the m-th named node and the row of q, where m is the node of q
+-- namedPlace p nodes q      : q, with its node number taken for an index into the list of nodes
 -- joinedPlace p nodes z     : the place of strip z of the named nodes' columns joined in list order
 -- joinedColumns p nodes x   : those columns of the array x
 -- TwoData p nodes           : some two different data give equal columns on the named nodes

@@ -1,16 +1,16 @@
 -- 'Reading back and the survey': 'The survey looks at the sets of k nodes in lexicographic order, starting at a given
 -- position (0 is the first)'. A set is the list of its nodes, rising.
 --
--- sets n k           : the number of sets of k of n nodes
--- setAt b n k pos    : the set at a position in lexicographic order, of k of the n nodes b, b + 1, ..
--- rankOf b n set     : the position of a set of some of the n nodes b, b + 1, ..
+-- sets n k             : the number of sets of k of n nodes
+-- setAt b n k pos      : the set at a position in lexicographic order, of k of the n nodes b, b + 1, ..
+-- rankOf b n set       : the position of a set of some of the n nodes b, b + 1, ..
 -- RisingFrom n b k set : set is k strictly rising numbers from b on, below n
--- Rising n k set     : set is k strictly rising numbers below n
--- Smaller u v        : u stands before v in lexicographic order
--- run b k            : b, b + 1, .., k numbers
--- full n set         : no entry of set can be raised, with those after it, and stay below n
--- nextOf n set       : the next set of the nodes below n: the last entry that can be raised is raised by one, and those
---                      after it follow at once
+-- Rising n k set       : set is k strictly rising numbers below n
+-- Smaller u v          : u stands before v in lexicographic order
+-- run b k              : b, b + 1, .., k numbers
+-- full n set           : no entry of set can be raised, with those after it, and stay below n
+-- nextOf n set         : the next set of the nodes below n: the last entry that can be raised is raised by one, and those
+--                        after it follow at once
 use mathlib.Core.Bool.{Bool, true, _&&_, cond}
 use mathlib.Core.List.{List, [], _∷_}
 use Prim.Native.Nat.{ℕ, zero, suc, _+_, _-_, _≤_, _<_}

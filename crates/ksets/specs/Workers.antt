@@ -1,7 +1,7 @@
 -- What the functions ask and leave on the way.
 --
 -- nextAt row k              : entry k of Pascal's row below `row`
--- Shared total n k          : total is the number of sets of k of n nodes, at most 24, and there is a first one
+-- Shared total n k          : total is the number of sets of k of n nodes, where n is 1 to 24 and k is not 0
 -- Writes set at b n k total : what writing a set asks: total such sets, and room from `at` on
 -- Ranks set at b n k total  : what ranking asks: total such sets, and k nodes from `at` on
 -- Raised n set i            : i is the last entry of set that can be raised

@@ -8,11 +8,11 @@ use Rattle.lists.proofs.Listed.{listed-length}
 use Rattle.strips.specs.Strips.{combinationOf, stripAt}
 use Rattle.document.specs.declared.Profile.{Profile}
 use Rattle.coefficients.specs.Weights.{positionIn}
-use Rattle.unpaired.specs.Unpaired.{isNamed, weightRow}
-use Rattle.reading.specs.Steps.{columnFrom}
+use Rattle.half_pairs.specs.HalfPairs.{isNamed, weightRow}
+use Rattle.reading.specs.Steps.{baseColumn}
 
-pub column-length : (p : Profile) (nodes y : List ℕ) (j : ℕ) → length (columnFrom p nodes y j) ≡ p .a * p .s
-unfolding columnFrom combinationOf stripAt
+pub column-length : (p : Profile) (nodes y : List ℕ) (j : ℕ) → length (baseColumn p nodes y j) ≡ p .a * p .s
+unfolding baseColumn combinationOf stripAt
 column-length p nodes y j = go (isNamed k nodes j)
   where
     k : ℕ

@@ -25,7 +25,7 @@ use Rattle.algebra.specs.Field.{Field}
 use Rattle.algebra.specs.Pick.{pick}
 use Rattle.algebra.specs.Sum.{sum}
 use Rattle.algebra.specs.Square.{times, dot, Inverse}
-use Rattle.algebra.specs.Unpaired.{opposite, weightAt, knownPartner, unpairedFactor}
+use Rattle.algebra.specs.HalfPairs.{opposite, weightAt, knownPartner, halfFactor}
 use Rattle.algebra.proofs.Field.{add-zero, zero-mul, mul-zero, mul-comm}
 use Rattle.algebra.proofs.Pick.{pick-yes, pick-no}
 use Rattle.algebra.proofs.Sum.{sum-ext, sum-zero, sum-one, sum-plus}
@@ -50,42 +50,42 @@ use Rattle.algebra.specs.Weight.{weight}
 use Rattle.coefficients.specs.Weights.{positionIn, points}
 use Rattle.coefficients.proofs.Combination.{sum-bytes}
 use Rattle.coefficients.proofs.Lagrange.{weights-at}
-use Rattle.unpaired.specs.Unpaired.{
+use Rattle.half_pairs.specs.HalfPairs.{
   named,
   isNamed,
   partnerAt,
-  unpairedStrips,
-  unpairedAt,
+  halfPairs,
+  halfPairAt,
   weightRow,
-  reducedAt,
+  systemAt,
 }
-use Rattle.unpaired.proofs.Named.{named-choice, named-positions}
-use Rattle.unpaired.proofs.Table.{row-other, row-length}
-use Rattle.unpaired.proofs.Symbols.{
+use Rattle.half_pairs.proofs.Named.{named-choice, named-positions}
+use Rattle.half_pairs.proofs.Table.{row-other, row-length}
+use Rattle.half_pairs.proofs.Symbols.{
   U,
   given,
   knownOf,
   knownPartnerOf,
   factorOf,
   partnerSymbol,
-  unpaired-each,
-  unpaired-has,
+  half-each,
+  half-has,
   not-true,
   inverse-clear,
   solved,
   symbol-is,
 }
-use Rattle.reading.proofs.Partners.{solved-length, unpaired-below}
+use Rattle.reading.proofs.Partners.{partner-length, half-below}
 use Rattle.reading.specs.Steps.{
   knownStrip,
   knownStrips,
+  knownPartnerStrip,
+  knownPartnerStrips,
   partnerStrip,
-  partnerStrips,
-  solvedStrip,
   completedStrip,
   completed,
-  columnFrom,
-  columnsFrom,
+  baseColumn,
+  baseColumns,
   dataBy,
 }
 
@@ -117,7 +117,7 @@ sum-more ws src offset stride m h =
         ∙ ap (λ (v : Byte). byte (getD src (offset + (length ws + q) * stride) 0) ⊗ v) byte-zero ∙ mul-zero bytes _
 
 module _ (p : Profile) (acc : Accepted p) (nodes : List ℕ) (rises : Rising (p .n) (p .k) nodes)
-    (lines : List Line) (I : Inverse bytes (U p nodes) (U p nodes) (reducedAt p nodes) (matrix lines))
+    (lines : List Line) (I : Inverse bytes (U p nodes) (U p nodes) (systemAt p nodes) (matrix lines))
     (x : List ℕ) (size : length x ≡ p .k * p .a * p .s) (small : (e : ℕ) → e < length x → getD x e 0 < 256) where
   open Profile p using (n, k, a as A, s as S)
 
@@ -125,7 +125,7 @@ module _ (p : Profile) (acc : Accepted p) (nodes : List ℕ) (rises : Rising (p 
   count = U p nodes
 
   abbrev o : ℕ → ℕ
-  o = unpairedAt p nodes
+  o = halfPairAt p nodes
 
   -- the data of document 01, and their base symbols
   abbrev d : List ℕ
@@ -186,26 +186,26 @@ module _ (p : Profile) (acc : Accepted p) (nodes : List ℕ) (rises : Rising (p 
             ap (λ (m : ℕ). byte (getD v m 0)) e ∙ ap byte (holds (q * A + i) b (digits-lt h r) l) ∙ byte-number _
             ∙ ap₂ (f b) (digits-mod q r) (digits-div q r)
 
-  -- ---- the partners of the unpaired strips
+  -- ---- the partners of the half pairs
   abbrev r : List ℕ
-  r = partnerStrips p nodes y
+  r = knownPartnerStrips p nodes y
 
   other-node : (e : ℕ) → e < count → isNamed k nodes (partnerAt p nodes (o e) .node .0) ≡ false
-  other-node e h = not-true _ (unpaired-each p nodes acc rises e h .0)
+  other-node e h = not-true _ (half-each p nodes acc rises e h .0)
 
   partner-byte : (e b : ℕ) → e < count → b < S → getD r (e * S + b) 0 ≡ number (knownPartnerOf p nodes x b (o e))
-  unfolding partnerStrips partnerStrip combinationOf knownPartner
+  unfolding knownPartnerStrips knownPartnerStrip combinationOf knownPartner
   partner-byte e b h l =
       listed-at (count * S) _ (e * S + b) 0 (digits-lt h l)
-      ∙ ap₂ (λ (m c : ℕ). getD (partnerStrip p nodes y (o m)) c 0) (digits-div e l) (digits-mod e l)
+      ∙ ap₂ (λ (m c : ℕ). getD (knownPartnerStrip p nodes y (o m)) c 0) (digits-div e l) (digits-mod e l)
       ∙ listed-at S _ b 0 l
       ∙ row-sum y (λ b i q. knownOf p nodes x b i q) known-byte (partnerAt p nodes (o e) .node .0)
       (partnerAt p nodes (o e) .row .0) b (mod-lt (named nodes (o e / A)) (A>0 p acc)) l (other-node e h)
 
   -- the e-th of them, solved for
   solved-byte : (e b : ℕ) → e < count → b < S
-      → getD (solvedStrip p nodes (lineAt lines e) r) b 0 ≡ number (partnerSymbol p nodes (symbol b) (o e))
-  unfolding solvedStrip combinationOf dot matrix symbol
+      → getD (partnerStrip p nodes (lineAt lines e) r) b 0 ≡ number (partnerSymbol p nodes (symbol b) (o e))
+  unfolding partnerStrip combinationOf dot matrix symbol
   solved-byte e b h l =
       listed-at S _ b 0 l
       ∙ sum-more (take count (lineAt lines e)) r (0 + b) S count (omega (arith, length-take count (lineAt lines e)))
@@ -224,7 +224,7 @@ module _ (p : Profile) (acc : Accepted p) (nodes : List ℕ) (rises : Rising (p 
           ∙ mul-comm bytes _ _
 
   -- ---- the strips completed
-  -- what the e-th unpaired strip is given
+  -- what the e-th half pair is given
   added : ℕ → ℕ → Byte
   added e b =
       factorAt p (o e % A) (named nodes (o e / A) % A) ⊗ partnerSymbol p nodes (symbol b) (o e)
@@ -250,7 +250,7 @@ module _ (p : Profile) (acc : Accepted p) (nodes : List ℕ) (rises : Rising (p 
       before = completed p nodes lines r m y
 
       strip : List ℕ
-      strip = solvedStrip p nodes (lineAt lines m) r
+      strip = partnerStrip p nodes (lineAt lines m) r
 
       f : ℕ
       f = number (factorAt p (o m % A) (named nodes (o m / A) % A))
@@ -263,30 +263,30 @@ module _ (p : Profile) (acc : Accepted p) (nodes : List ℕ) (rises : Rising (p 
           ≡ number (knownOf p nodes x b (z % A) (z / A) ⊕ (sums ⊕ pick t (added m b) 𝟘))
       step (yes t) e =
           ap (λ (c : ℕ). getD (completedStrip p nodes (lineAt lines m) r m before) (c * S + b) 0) (sym t)
-          ∙ patched-in (o m * S) (length strip) _ before b (omega (arith, solved-length p nodes (lineAt lines m) r, l)) inside
+          ∙ patched-in (o m * S) (length strip) _ before b (omega (arith, partner-length p nodes (lineAt lines m) r, l)) inside
           ∙ ap₂ (λ (v w : ℕ). G._⊕_ v (G._⊗_ f w)) (ap (λ (m : ℕ). getD before (m * S + b) 0) t ∙ e)
           (solved-byte m b (omega arith) l)
           ∙ ap (λ (w : ℕ). G._⊕_ (number (part m z b)) w) (sym (number-mul _ _))
           ∙ sym (number-add _ _) ∙ ap number (bytes .add-assoc _ sums (added m b))
         where
           inside : o m * S + b < length before
-          inside = omega (arith, completed-length m, digits-lt (unpaired-below p acc nodes rises m (omega arith)) l)
+          inside = omega (arith, completed-length m, digits-lt (half-below p acc nodes rises m (omega arith)) l)
       step (no t) e =
           patched-out (o m * S) (length strip) _ before (z * S + b) (λ low high. t (sym (same low high))) ∙ e
           ∙ ap number (sym (ap (λ (v : Byte). knownOf p nodes x b (z % A) (z / A) ⊕ v) (add-zero bytes sums)))
         where
           same : o m * S ≤ z * S + b → z * S + b < o m * S + length strip → z ≡ o m
           same low high =
-              let left : z * S + b - o m * S < S = omega (arith, solved-length p nodes (lineAt lines m) r) in
+              let left : z * S + b - o m * S < S = omega (arith, partner-length p nodes (lineAt lines m) r) in
               let again : o m * S + (z * S + b - o m * S) ≡ z * S + b = omega arith in
               sym (digits-div z l) ∙ ap (λ (m : ℕ). m / S) (sym again) ∙ digits-div (o m) left
 
-  -- no two unpaired strips are one
-  unpaired-once : (e f : ℕ) → e < count → f < count → o e ≡ o f → e ≡ f
-  unfolding unpairedStrips
-  unpaired-once e f h u same = go (decLt e f) (decLt f e)
+  -- no two half pairs are one
+  half-once : (e f : ℕ) → e < count → f < count → o e ≡ o f → e ≡ f
+  unfolding halfPairs
+  half-once e f h u same = go (decLt e f) (decLt f e)
     where
-      once : Distinct (unpairedStrips p nodes)
+      once : Distinct (halfPairs p nodes)
       once = once-distinct (k * A) _ _ (rising-once (k * A) _)
 
       go : Dec (e < f) → Dec (f < e) → e ≡ f
@@ -299,7 +299,7 @@ module _ (p : Profile) (acc : Accepted p) (nodes : List ℕ) (rises : Rising (p 
   w = completed p nodes lines r count y
 
   symbol-byte : (z b : ℕ) → z < k * A → b < S → getD w (z * S + b) 0 ≡ number (symbol b (z % A) (named nodes (z / A)))
-  unfolding part added symbol unpairedFactor
+  unfolding part added symbol halfFactor
   symbol-byte z b h l =
       completed-byte count (omega arith) z b h l
       ∙ ap number
@@ -319,7 +319,7 @@ module _ (p : Profile) (acc : Accepted p) (nodes : List ℕ) (rises : Rising (p 
       one : (e : ℕ) × (e < count) × (o e ≡ z) → sum bytes count term ≡ f ⊗ partner
       one (e, below, at) =
           sum-one bytes count e term below
-          (λ g u differ. pick-no (ℕ-discrete (o g) z) _ _ (λ same. differ (unpaired-once g e u below (same ∙ sym at))))
+          (λ g u differ. pick-no (ℕ-discrete (o g) z) _ _ (λ same. differ (half-once g e u below (same ∙ sym at))))
           ∙ pick-yes (ℕ-discrete (o e) z) _ _ at
           ∙ ap (λ (m : ℕ). factorAt p (m % A) (named nodes (m / A) % A) ⊗ partnerSymbol p nodes (symbol b) m) at
 
@@ -333,12 +333,12 @@ module _ (p : Profile) (acc : Accepted p) (nodes : List ℕ) (rises : Rising (p 
           ltb-false _ _ (other-node e u) in
           omega arith))
           ∙ sym (zero-mul bytes partner)
-      go (no t) = one (unpaired-has p nodes acc rises z h t)
+      go (no t) = one (half-has p nodes acc rises z h t)
 
   -- ---- the columns of the data nodes
   column-byte : (j i b : ℕ) → j < k → i < A → b < S
-      → getD (columnFrom p nodes w j) (i * S + b) 0 ≡ number (symbol b i j)
-  unfolding columnFrom combinationOf stripAt symbol
+      → getD (baseColumn p nodes w j) (i * S + b) 0 ≡ number (symbol b i j)
+  unfolding baseColumn combinationOf stripAt symbol
   column-byte j i b h u l = go (isNamed k nodes j) refl
     where
       inside : i * S + b < A * S
@@ -368,7 +368,7 @@ module _ (p : Profile) (acc : Accepted p) (nodes : List ℕ) (rises : Rising (p 
 
   -- The data that the steps come to.
   pub data-by : dataBy p nodes lines x ≡ d
-  unfolding dataBy columnsFrom symbol
+  unfolding dataBy baseColumns symbol
   data-by =
       laid-only p k (byteAt p d) (dataBy p nodes lines x) (listed-length (k * (A * S)) _ ∙ sym (mul-assoc k A S)) at
       ∙ sym (laid-bytes p k d (read-data p nodes x .size) (read-data p nodes x .bytes-only))
@@ -381,8 +381,8 @@ module _ (p : Profile) (acc : Accepted p) (nodes : List ℕ) (rises : Rising (p 
           let inside : i * S + b < A * S = digits-lt (strip-row z) l in
           let e : z * S + b ≡ j * (A * S) + (i * S + b) =
           omega (arith, ap (λ (m : ℕ). m * S) (div-add-mod' z A), add-mul (j * A) i S, mul-assoc j A S) in
-          ap (λ (m : ℕ). getD (columnsFrom p nodes w) m 0) e
+          ap (λ (m : ℕ). getD (baseColumns p nodes w) m 0) e
           ∙ listed-at (k * (A * S)) _ (j * (A * S) + (i * S + b)) 0 (digits-lt (strip-node z h) inside)
-          ∙ ap₂ (λ (m c : ℕ). getD (columnFrom p nodes w m) c 0) (digits-div j inside) (digits-mod j inside)
+          ∙ ap₂ (λ (m c : ℕ). getD (baseColumn p nodes w m) c 0) (digits-div j inside) (digits-mod j inside)
           ∙ column-byte j i b (strip-node z h) (strip-row z) l
           ∙ ap number (row-data p d b i acc j (strip-node z h))

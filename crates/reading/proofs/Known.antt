@@ -12,7 +12,7 @@ use Rattle.gf256.specs.Field.{_⊕_, _⊗_, inverse}
 use Rattle.gf256.proofs.Ring.{zero-add, one-mul}
 use Rattle.ksets.specs.Sets.{Rising}
 use Rattle.ksets.proofs.Ranked.{risen-length}
-use Rattle.algebra.specs.Unpaired.{known}
+use Rattle.algebra.specs.HalfPairs.{known}
 use Rattle.algebra.specs.Coupling.{base}
 use Rattle.algebra.proofs.Pick.{pick-yes, pick-no}
 use Rattle.strips.specs.Strips.{stripAt, addedScaled}
@@ -25,9 +25,9 @@ use Rattle.document.specs.Encoding.{factorAt}
 use Rattle.document.proofs.Bounds.{A>0}
 use Rattle.document.proofs.Bytes.{number-byte}
 use Rattle.coefficients.specs.Weights.{positionIn}
-use Rattle.unpaired.specs.Unpaired.{named, partnerAt}
-use Rattle.unpaired.proofs.Named.{named-positions}
-use Rattle.reading.specs.Steps.{multipleOf, uncoupledStrip, givenAt, knownStrip}
+use Rattle.half_pairs.specs.HalfPairs.{named, partnerAt}
+use Rattle.half_pairs.proofs.Named.{named-positions}
+use Rattle.reading.specs.Steps.{multipleOf, uncoupledStrip, joinedAt, knownStrip}
 
 -- the entries of a list
 entries : (n : ℕ) (xs : List ℕ) → length xs ≡ n → listed n (λ b. getD xs b 0) ≡ xs
@@ -106,7 +106,7 @@ module _ (p : Profile) (nodes x : List ℕ) where
           (named-positions rises (risen-length rises) .there (z / A) (div-lt-iff-lt-mul (A>0 p acc) .1 h))
           ∙ div-add-mod' z A
 
-      own-number : (b : ℕ) → number (givenAt p nodes x b (z % A) own) ≡ getD x (z * S + b) 0
+      own-number : (b : ℕ) → number (joinedAt p nodes x b (z % A) own) ≡ getD x (z * S + b) 0
       own-number b =
           ap (λ (y : ℕ). number (byte (getD x (y * S + b) 0))) own-strip ∙ number-byte _ (small (z * S + b))
 

@@ -1,4 +1,4 @@
--- The partners of the unpaired strips: how long the strips are, where those of a row lie, and how they are completed.
+-- The partners of the half pairs: how long the strips are, where those of a row lie, and how they are completed.
 use mathlib.Core.Path.{_≡_, refl}
 use mathlib.Core.List.{List}
 use Prim.Native.Nat.{ℕ, _+_, _*_, _≤_, _<_}
@@ -17,18 +17,18 @@ use Rattle.document.specs.Profile.{Accepted}
 use Rattle.document.specs.Places.{Within}
 use Rattle.document.proofs.Bounds.{room, partner-within}
 use Rattle.document.proofs.Reading.{joined-within}
-use Rattle.unpaired.specs.Unpaired.{partnerAt, unpairedStrips, unpairedAt}
-use Rattle.unpaired.proofs.Symbols.{unpaired-each}
-use Rattle.unpaired.proofs.Reduced.{few-unpaired}
-use Rattle.reading.specs.Steps.{partnerStrip, solvedStrip, completedStrip, completed}
+use Rattle.half_pairs.specs.HalfPairs.{partnerAt, halfPairs, halfPairAt}
+use Rattle.half_pairs.proofs.Symbols.{half-each}
+use Rattle.half_pairs.proofs.System.{few-halves}
+use Rattle.reading.specs.Steps.{knownPartnerStrip, partnerStrip, completedStrip, completed}
 
-pub partner-length : (p : Profile) (nodes y : List ℕ) (z : ℕ) → length (partnerStrip p nodes y z) ≡ p .s
+pub known-partner-length : (p : Profile) (nodes y : List ℕ) (z : ℕ) → length (knownPartnerStrip p nodes y z) ≡ p .s
+unfolding knownPartnerStrip combinationOf
+known-partner-length p nodes y z = listed-length (p .s) _
+
+pub partner-length : (p : Profile) (nodes line r : List ℕ) → length (partnerStrip p nodes line r) ≡ p .s
 unfolding partnerStrip combinationOf
-partner-length p nodes y z = listed-length (p .s) _
-
-pub solved-length : (p : Profile) (nodes line r : List ℕ) → length (solvedStrip p nodes line r) ≡ p .s
-unfolding solvedStrip combinationOf
-solved-length p nodes line r = listed-length (p .s) _
+partner-length p nodes line r = listed-length (p .s) _
 
 -- the strips completed one by one
 module _ (p : Profile) (nodes : List ℕ) (lines : List Line) (r y : List ℕ) where
@@ -45,7 +45,7 @@ module _ (p : Profile) (acc : Accepted p) (nodes : List ℕ) (rises : Rising (p 
   open Profile p using (n, k, a as A, s as S)
 
   abbrev U : ℕ
-  U = length (unpairedStrips p nodes)
+  U = length (halfPairs p nodes)
 
   -- the strip of row i in column q
   pub strip-fits : (i q : ℕ) → i < A → q < k → i * S + q * (A * S) + S ≤ k * A * S
@@ -55,8 +55,8 @@ module _ (p : Profile) (acc : Accepted p) (nodes : List ℕ) (rises : Rising (p 
   pub joined-partner-within : (z : ℕ) → z < k * A → Within p (partnerAt p nodes z)
   joined-partner-within z h = partner-within p acc _ (joined-within p acc nodes rises z h)
 
-  pub unpaired-below : (e : ℕ) → e < U → unpairedAt p nodes e < k * A
-  unpaired-below e h = unpaired-each p nodes acc rises e h .1
+  pub half-below : (e : ℕ) → e < U → halfPairAt p nodes e < k * A
+  half-below e h = half-each p nodes acc rises e h .1
 
   pub partners-bound : U * S ≤ 40960
-  partners-bound = mul-le-mul {n₁ = U} {m₁ = S} {n₂ = 80} {m₂ = 512} (few-unpaired p nodes acc rises) (acc .short)
+  partners-bound = mul-le-mul {n₁ = U} {m₁ = S} {n₂ = 80} {m₂ = 512} (few-halves p nodes acc rises) (acc .short)

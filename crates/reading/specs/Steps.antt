@@ -1,21 +1,22 @@
 -- What the steps of reading back leave. Strips are those of the named nodes' columns joined in list order, z = qA + i for
--- row i of the q-th named node.
+-- row i of the q-th named node. x are the joined columns, y strips of the named nodes, r right-hand sides of the system of
+-- the half pairs, a strip for each.
 --
--- givenAt p nodes x b i j          : byte b of the strip that x, the joined columns, has for row i of the named node j
--- multipleOf d strip               : d times each byte of a strip
--- uncoupledStrip f d own partner   : d times the sum of own and f times partner, byte by byte
--- knownStrip p nodes x z           : what x gives of the base symbols of strip z: all of them where its partner is named,
---                                    otherwise the stored ones
--- knownStrips p nodes x            : the same of all strips
--- partnerStrip p nodes y z         : the sum of the strips y of one row, with the weights at the partner of strip z
--- partnerStrips p nodes y          : the same for each unpaired strip, in their order
--- solvedStrip p nodes line r       : the sum of the strips r with a line of the inverse: an unpaired strip's partner
--- completedStrip p nodes line r e y : y with it added to the e-th unpaired strip, times its factor
--- completed p nodes lines r e y    : y with the first e unpaired strips completed so
--- columnFrom p nodes y j           : the column of node j from the base symbols y of the named nodes
--- columnsFrom p nodes y            : those of the data nodes
--- dataBy p nodes lines x           : the data, by the lines of the inverse of the small system
--- readingAnswer p nodes x y        : what reading back in due form answers and leaves in y
+-- multipleOf d strip                : d times each byte of a strip
+-- uncoupledStrip f d own partner    : d times the sum of own and f times partner, byte by byte
+-- joinedAt p nodes x b i j          : byte b of the strip that x has for row i of the named node j
+-- knownStrip p nodes x z            : what x gives of the base symbols of strip z: all of them where its partner is named,
+--                                     otherwise the stored ones
+-- knownStrips p nodes x             : the same of all strips
+-- knownPartnerStrip p nodes y z     : the sum of the strips y of one row, with the weights at the partner of the half pair z
+-- knownPartnerStrips p nodes y      : the same for each half pair, in their order: the right-hand sides
+-- partnerStrip p nodes line r       : the sum of the right-hand sides with a line of the inverse: a half pair's partner
+-- completedStrip p nodes line r e y : y with it added to the e-th half pair, times its factor
+-- completed p nodes lines r e y     : y with the first e half pairs completed so
+-- baseColumn p nodes y j            : the base strips of node j, from those of the named nodes, y
+-- baseColumns p nodes y             : those of the data nodes: the data
+-- dataBy p nodes lines x            : the data, by the lines of the inverse of the system
+-- readingAnswer p nodes x y         : what reading back in due form answers and leaves in y, the buffer lent for the data
 use mathlib.Core.Bool.{cond}
 use mathlib.Core.List.{List}
 use Prim.Native.Nat.{ℕ, zero, suc, _+_, _*_, _/_, _%_}
@@ -23,7 +24,7 @@ use lib.ListN.{length, getD, take}
 use Rattle.lists.specs.Listed.{listed}
 use Rattle.gf256.specs.Field.{_⊕_, _⊗_}
 use Rattle.algebra.specs.Coupling.{Array}
-use Rattle.algebra.specs.Unpaired.{known}
+use Rattle.algebra.specs.HalfPairs.{known}
 use Rattle.strips.specs.Strips.{combinationOf, stripAt, addedScaled}
 use Rattle.square.specs.declared.Line.{Line}
 use Rattle.square.specs.Steps.{lineAt}
@@ -35,7 +36,7 @@ use Rattle.document.specs.Bytes.{bytes, byte, number}
 use Rattle.document.specs.Encoding.{factorAt}
 use Rattle.document.specs.Reading.{ambiguous, dataFrom}
 use Rattle.coefficients.specs.Weights.{positionIn}
-use Rattle.unpaired.specs.Unpaired.{named, isNamed, partnerAt, unpairedStrips, unpairedAt, weightRow}
+use Rattle.half_pairs.specs.HalfPairs.{named, isNamed, partnerAt, halfPairs, halfPairAt, weightRow}
 
 unfoldable pub multipleOf : ℕ → List ℕ → List ℕ
 multipleOf d strip = listed (length strip) (λ b. d ⊗ getD strip b 0)
@@ -46,50 +47,50 @@ uncoupledStrip f d own partner = listed (length own) (λ b. d ⊗ (getD own b 0 
 module _ (p : Profile) (nodes : List ℕ) where
   open Profile p using (k, a as A, s as S)
 
-  abbrev pub givenAt : List ℕ → ℕ → Array bytes
-  givenAt x b i j = byte (getD x ((positionIn nodes j * A + i) * S + b) 0)
+  abbrev pub joinedAt : List ℕ → ℕ → Array bytes
+  joinedAt x b i j = byte (getD x ((positionIn nodes j * A + i) * S + b) 0)
 
   unfoldable pub knownStrip : List ℕ → ℕ → List ℕ
   knownStrip x z =
       listed S
       (λ b. number
-      (known bytes A k byte (factorAt p) (named nodes) (positionIn nodes) (givenAt x b) (z % A) (z / A)))
+      (known bytes A k byte (factorAt p) (named nodes) (positionIn nodes) (joinedAt x b) (z % A) (z / A)))
 
   unfoldable pub knownStrips : List ℕ → List ℕ
   knownStrips x = listed (k * A * S) (λ e. getD (knownStrip x (e / S)) (e % S) 0)
 
-  unfoldable pub partnerStrip : List ℕ → ℕ → List ℕ
-  partnerStrip y z =
+  unfoldable pub knownPartnerStrip : List ℕ → ℕ → List ℕ
+  knownPartnerStrip y z =
       combinationOf (weightRow k nodes (partnerAt p nodes z .node .0)) y (partnerAt p nodes z .row .0 * S) (A * S) S
 
-  unfoldable pub partnerStrips : List ℕ → List ℕ
-  partnerStrips y =
-      listed (length (unpairedStrips p nodes) * S) (λ o. getD (partnerStrip y (unpairedAt p nodes (o / S))) (o % S) 0)
+  unfoldable pub knownPartnerStrips : List ℕ → List ℕ
+  knownPartnerStrips y =
+      listed (length (halfPairs p nodes) * S) (λ o. getD (knownPartnerStrip y (halfPairAt p nodes (o / S))) (o % S) 0)
 
-  unfoldable pub solvedStrip : List ℕ → List ℕ → List ℕ
-  solvedStrip line r = combinationOf (take (length (unpairedStrips p nodes)) line) r 0 S S
+  unfoldable pub partnerStrip : List ℕ → List ℕ → List ℕ
+  partnerStrip line r = combinationOf (take (length (halfPairs p nodes)) line) r 0 S S
 
   unfoldable pub completedStrip : List ℕ → List ℕ → ℕ → List ℕ → List ℕ
   completedStrip line r e y =
-      let z : ℕ = unpairedAt p nodes e in
-      addedScaled (number (factorAt p (z % A) (named nodes (z / A) % A))) (z * S) (solvedStrip line r) y
+      let z : ℕ = halfPairAt p nodes e in
+      addedScaled (number (factorAt p (z % A) (named nodes (z / A) % A))) (z * S) (partnerStrip line r) y
 
   unfoldable pub completed : List Line → List ℕ → ℕ → List ℕ → List ℕ
   completed lines r zero y = y
   completed lines r (suc e) y = completedStrip (lineAt lines e) r e (completed lines r e y)
 
-  unfoldable pub columnFrom : List ℕ → ℕ → List ℕ
-  columnFrom y j =
+  unfoldable pub baseColumn : List ℕ → ℕ → List ℕ
+  baseColumn y j =
       cond (isNamed k nodes j) (stripAt y (positionIn nodes j * (A * S)) (A * S))
       (combinationOf (weightRow k nodes j) y 0 (A * S) (A * S))
 
-  unfoldable pub columnsFrom : List ℕ → List ℕ
-  columnsFrom y = listed (k * (A * S)) (λ e. getD (columnFrom y (e / (A * S))) (e % (A * S)) 0)
+  unfoldable pub baseColumns : List ℕ → List ℕ
+  baseColumns y = listed (k * (A * S)) (λ e. getD (baseColumn y (e / (A * S))) (e % (A * S)) 0)
 
   unfoldable pub dataBy : List Line → List ℕ → List ℕ
   dataBy lines x =
       let y : List ℕ = knownStrips x in
-      columnsFrom (completed lines (partnerStrips y) (length (unpairedStrips p nodes)) y)
+      baseColumns (completed lines (knownPartnerStrips y) (length (halfPairs p nodes)) y)
 
   unfoldable pub readingAnswer : List ℕ → List ℕ → Answer × List ℕ
   readingAnswer x y = cond (ambiguous p nodes) (Refused Ambiguous, y) (Done 0, dataFrom p nodes x)

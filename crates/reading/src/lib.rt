@@ -1,14 +1,14 @@
-// Reading back by pairs. Where both strips of a pair are read they give both base strips; the partners of the others solve
-// a small system. From the base strips of the named nodes follow the columns of the data nodes.
+// Reading back by pairs. Where both strips of a pair are read they give both base strips; the partners of the half pairs
+// solve a small system. From the base strips of the named nodes follow those of the data nodes, which are the data.
 ghost use mathlib.Core.Path.{_≡_};
 ghost use Prim.Native.Nat.{_*_, _≤_, _<_};
 ghost use lib.ListN.{length};
 ghost use Rattle.ksets.specs.Sets.{Rising};
 ghost use Rattle.document.specs.Profile.{Accepted};
 ghost use Rattle.document.specs.Reading.{listAccepted, readOf};
-ghost use Rattle.unpaired.specs.Unpaired.{positionTable, unpairedStrips, weightTable};
-ghost use Rattle.reading.specs.Steps.{multipleOf, uncoupledStrip, knownStrip, knownStrips, partnerStrip, partnerStrips};
-ghost use Rattle.reading.specs.Steps.{completedStrip, completed, columnFrom, columnsFrom, dataBy, readingAnswer};
+ghost use Rattle.half_pairs.specs.HalfPairs.{positionTable, halfPairs, weightTable};
+ghost use Rattle.reading.specs.Steps.{multipleOf, uncoupledStrip, knownStrip, knownStrips, knownPartnerStrip, knownPartnerStrips};
+ghost use Rattle.reading.specs.Steps.{completedStrip, completed, baseColumn, baseColumns, dataBy, readingAnswer};
 use document::Answer;
 use document::Checked;
 use document::Numbers;
@@ -77,7 +77,7 @@ fn known_strip(out: &mut [u8], p: Profile, nodes: &[u8], positions: &[u8], colum
     ensures { λ _. ⌜ now (out .exit) ≡ knownStrip p (now (nodes .entry)) (now (columns .entry)) z ⌝ }
 {
     let s = p.s;
-    let q = unpaired::joined_place(p, nodes, z);
+    let q = half_pairs::joined_place(p, nodes, z);
     let r = p.partner(q);
     let j = r.node.0;
     let at = positions[j] as usize;
@@ -119,41 +119,41 @@ fn known_strips(out: &mut [u8], p: Profile, nodes: &[u8], positions: &[u8], colu
     }
 }
 
-// What the known strips y give of the base strip at the partner of strip z: the sum of the strips of its row, with the
-// weights at its node.
-fn partner_strip(out: &mut [u8], p: Profile, nodes: &[u8], table: &[u8], y: &[u8], z: usize)
+// What the known strips y give of the base strip at the partner of the half pair z: the sum of the strips of its row, with
+// the weights at its node.
+fn known_partner(out: &mut [u8], p: Profile, nodes: &[u8], table: &[u8], y: &[u8], z: usize)
     requires { ⌜ Accepted p × Rising (p .n) (p .k) (now nodes) × (z < p .k * p .a) ⌝ }
     requires { ⌜ (now table ≡ weightTable p (now nodes)) × (length (now out) ≡ p .s)
         × (length (now y) ≡ p .k * p .a * p .s) ⌝ }
-    ensures { λ _. ⌜ now (out .exit) ≡ partnerStrip p (now (nodes .entry)) (now (y .entry)) z ⌝ }
+    ensures { λ _. ⌜ now (out .exit) ≡ knownPartnerStrip p (now (nodes .entry)) (now (y .entry)) z ⌝ }
 {
     let k = p.k;
     let s = p.s;
-    let r = unpaired::joined_partner(p, nodes, z);
+    let r = half_pairs::joined_partner(p, nodes, z);
     let from = r.node.0 * k;
     let end = from + k;
     strips::combine(out, y, r.row.0 * s, p.a * s, &table[from..end]);
 }
 
-// The same for each unpaired strip.
-fn partner_strips(out: &mut [u8], p: Profile, nodes: &[u8], table: &[u8], strips: &[u8], y: &[u8])
+// The same for each half pair: the right-hand sides of their system.
+fn known_partners(out: &mut [u8], p: Profile, nodes: &[u8], table: &[u8], strips: &[u8], y: &[u8])
     requires { ⌜ Accepted p × Rising (p .n) (p .k) (now nodes) × (now table ≡ weightTable p (now nodes)) ⌝ }
-    requires { ⌜ (now strips ≡ unpairedStrips p (now nodes)) × (length (now out) ≡ length (now strips) * p .s)
+    requires { ⌜ (now strips ≡ halfPairs p (now nodes)) × (length (now out) ≡ length (now strips) * p .s)
         × (length (now y) ≡ p .k * p .a * p .s) ⌝ }
-    ensures { λ _. ⌜ now (out .exit) ≡ partnerStrips p (now (nodes .entry)) (now (y .entry)) ⌝ }
+    ensures { λ _. ⌜ now (out .exit) ≡ knownPartnerStrips p (now (nodes .entry)) (now (y .entry)) ⌝ }
 {
     let s = p.s;
     let mut e: usize = 0;
     while e < strips.len() {
         let from = e * s;
         let end = from + s;
-        partner_strip(&mut out[from..end], p, nodes, table, y, strips[e] as usize);
+        known_partner(&mut out[from..end], p, nodes, table, y, strips[e] as usize);
         e += 1;
     }
 }
 
-// Completes the e-th unpaired strip: its partner is the sum of the strips r with line e of the inverse, and is added times
-// its factor.
+// Completes the e-th half pair: its partner is the sum of the right-hand sides r with line e of the inverse, and is added
+// times its factor.
 fn complete_strip(
     y: &mut [u8],
     p: Profile,
@@ -163,7 +163,7 @@ fn complete_strip(
     line: Line,
     e: usize,
 )
-    requires { ⌜ Accepted p × Rising (p .n) (p .k) (now nodes) × (now strips ≡ unpairedStrips p (now nodes)) ⌝ }
+    requires { ⌜ Accepted p × Rising (p .n) (p .k) (now nodes) × (now strips ≡ halfPairs p (now nodes)) ⌝ }
     requires { ⌜ (e < length (now strips)) × (length (now y) ≡ p .k * p .a * p .s)
         × (length (now r) ≡ length (now strips) * p .s) ⌝ }
     ensures { λ _. ⌜ now (y .exit)
@@ -172,7 +172,7 @@ fn complete_strip(
     let s = p.s;
     let count = strips.len();
     let z = strips[e] as usize;
-    let q = unpaired::joined_place(p, nodes, z);
+    let q = half_pairs::joined_place(p, nodes, z);
     let row = q.row;
     let f = p.factor(row, q.node.0 % p.a);
     let c = line.c;
@@ -183,7 +183,7 @@ fn complete_strip(
 
 // Completes all of them.
 fn complete(y: &mut [u8], p: Profile, nodes: &[u8], strips: &[u8], r: &[u8], lines: [Line; 80])
-    requires { ⌜ Accepted p × Rising (p .n) (p .k) (now nodes) × (now strips ≡ unpairedStrips p (now nodes)) ⌝ }
+    requires { ⌜ Accepted p × Rising (p .n) (p .k) (now nodes) × (now strips ≡ halfPairs p (now nodes)) ⌝ }
     requires { ⌜ (length (now y) ≡ p .k * p .a * p .s) × (length (now r) ≡ length (now strips) * p .s) ⌝ }
     ensures { λ _. ⌜ now (y .exit)
         ≡ completed p (now (nodes .entry)) lines (now (r .entry)) (length (now (strips .entry))) (now (y .entry)) ⌝ }
@@ -196,8 +196,8 @@ fn complete(y: &mut [u8], p: Profile, nodes: &[u8], strips: &[u8], r: &[u8], lin
     }
 }
 
-// The column of node j from the base strips y of the named nodes: its own where it is one of them, otherwise their sum
-// with the weights at it. Every row has the same weights, so a whole column is one strip to the row code.
+// The base strips of node j from those of the named nodes, y: its own where it is one of them, otherwise their sum with the
+// weights at it. Every row has the same weights, so a whole column is one strip to the row code.
 fn put_column(
     out: &mut [u8],
     p: Profile,
@@ -210,7 +210,7 @@ fn put_column(
     requires { ⌜ Accepted p × Rising (p .n) (p .k) (now nodes) × (j < p .n) ⌝ }
     requires { ⌜ (now positions ≡ positionTable (now nodes)) × (now table ≡ weightTable p (now nodes))
         × (length (now out) ≡ p .a * p .s) × (length (now y) ≡ p .k * p .a * p .s) ⌝ }
-    ensures { λ _. ⌜ now (out .exit) ≡ columnFrom p (now (nodes .entry)) (now (y .entry)) j ⌝ }
+    ensures { λ _. ⌜ now (out .exit) ≡ baseColumn p (now (nodes .entry)) (now (y .entry)) j ⌝ }
 {
     let k = p.k;
     let width = p.a * p.s;
@@ -224,12 +224,12 @@ fn put_column(
     strips::combine(out, y, 0, width, &table[from..end]);
 }
 
-// The columns of the data nodes.
+// The base strips of the data nodes.
 fn put_columns(out: &mut [u8], p: Profile, nodes: &[u8], positions: &[u8], table: &[u8], y: &[u8])
     requires { ⌜ Accepted p × Rising (p .n) (p .k) (now nodes) × (now positions ≡ positionTable (now nodes)) ⌝ }
     requires { ⌜ (now table ≡ weightTable p (now nodes)) × (length (now out) ≡ p .k * p .a * p .s)
         × (length (now y) ≡ p .k * p .a * p .s) ⌝ }
-    ensures { λ _. ⌜ now (out .exit) ≡ columnsFrom p (now (nodes .entry)) (now (y .entry)) ⌝ }
+    ensures { λ _. ⌜ now (out .exit) ≡ baseColumns p (now (nodes .entry)) (now (y .entry)) ⌝ }
 {
     let k = p.k;
     let width = p.a * p.s;
@@ -242,8 +242,8 @@ fn put_columns(out: &mut [u8], p: Profile, nodes: &[u8], positions: &[u8], table
     }
 }
 
-// The data, by the lines of the inverse of the small system. The strips of the named nodes stand in y; the partners' strips
-// stand in the output until the columns are written over them.
+// The data, by the lines of the inverse of the system. The strips of the named nodes stand in y; the right-hand sides stand
+// in the output until the data are written over them.
 fn put_by(
     out: &mut [u8],
     y: &mut [u8],
@@ -256,14 +256,14 @@ fn put_by(
     lines: [Line; 80],
 )
     requires { ⌜ Accepted p × Rising (p .n) (p .k) (now nodes) × (now positions ≡ positionTable (now nodes)) ⌝ }
-    requires { ⌜ (now table ≡ weightTable p (now nodes)) × (now strips ≡ unpairedStrips p (now nodes)) ⌝ }
+    requires { ⌜ (now table ≡ weightTable p (now nodes)) × (now strips ≡ halfPairs p (now nodes)) ⌝ }
     requires { ⌜ (length (now columns) ≡ p .k * p .a * p .s) × (length (now out) ≡ p .k * p .a * p .s)
         × (length (now y) ≡ p .k * p .a * p .s) ⌝ }
     ensures { λ _. ⌜ now (out .exit) ≡ dataBy p (now (nodes .entry)) lines (now (columns .entry)) ⌝ }
 {
     let partners = strips.len() * p.s;
     known_strips(y, p, nodes, positions, columns);
-    partner_strips(&mut out[..partners], p, nodes, table, strips, y);
+    known_partners(&mut out[..partners], p, nodes, table, strips, y);
     complete(y, p, nodes, strips, &out[..partners], lines);
     put_columns(out, p, nodes, positions, table, y);
 }
@@ -280,7 +280,7 @@ fn put_data(
     lines: [Line; 80],
 )
     requires { ⌜ Accepted p × Rising (p .n) (p .k) (now nodes) × (now positions ≡ positionTable (now nodes)) ⌝ }
-    requires { ⌜ (now table ≡ weightTable p (now nodes)) × (now strips ≡ unpairedStrips p (now nodes)) ⌝ }
+    requires { ⌜ (now table ≡ weightTable p (now nodes)) × (now strips ≡ halfPairs p (now nodes)) ⌝ }
     requires { ⌜ (length (now columns) ≡ p .k * p .a * p .s) × (length (now out) ≡ p .k * p .a * p .s) ⌝ }
     ensures { λ _. ⌜ now (out .exit) ≡ dataBy p (now (nodes .entry)) lines (now (columns .entry)) ⌝ }
 {
@@ -306,11 +306,11 @@ fn read_from(p: Profile, nodes: &[u8], columns: &[u8], output: &mut [u8]) -> Ans
     ensures { λ r. ⌜ (r, now (output .exit))
         ≡ readingAnswer p (now (nodes .entry)) (now (columns .entry)) (now (output .entry)) ⌝ }
 {
-    let positions = unpaired::positions(nodes);
+    let positions = half_pairs::positions(nodes);
     let mut strips = [0u8; 80];
-    let count = unpaired::list_unpaired(&mut strips, p, nodes, &positions);
-    let table = unpaired::weight_table(p, nodes, &positions);
-    let s = unpaired::reduced_square(p, nodes, &table, &strips[..count]);
+    let count = half_pairs::list_half_pairs(&mut strips, p, nodes, &positions);
+    let table = half_pairs::weight_table(p, nodes, &positions);
+    let s = half_pairs::system_square(p, nodes, &table, &strips[..count]);
     let e = square::invert(s, count, count);
     let verdict = e.verdict;
     match verdict {

@@ -11,7 +11,8 @@
 -- verdictAndLines e            : the verdict, with the lines of the right half or of the square
 -- singular e                   : the test whether a column has no pivot
 -- kernelFrom columns r a       : the vector that is read off a square a with no pivot in column r: the entries of the
---                                column above line r, 1 at r, 0 below. The square takes it to zero (`stuck-kernel`)
+--                                column above line r, 1 at r, 0 below. The square takes it to zero (`stuck-kernel` in
+--                                document/proofs/Squares.antt)
 use mathlib.Core.Bool.{Bool, true, false, cond}
 use mathlib.Core.List.{List}
 use Prim.Native.Nat.{ℕ, zero, suc}
@@ -37,7 +38,7 @@ atPivot Missing go none = none
 abbrev pub clearing : ℕ → ℕ → (List Line → List Line → Ended) → List Line → List Line → Ended
 clearing rows r next b u = next (stepped (multiplierAt b r r) r b rows) (stepped (multiplierAt b r r) r u rows)
 
--- A zero pivot looks for another line, and only a column with none ends the elimination.
+-- Where the pivot is zero another line is looked for; only a column in which there is none ends the elimination.
 unfoldable pub endFrom : ℕ → ℕ → ℕ → List Line → List Line → Ended
 endFrom rows zero r a t = whole t
 endFrom rows (suc n) r a t =

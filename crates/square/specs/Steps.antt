@@ -1,17 +1,17 @@
 -- A square as a list of lines, and the steps of its elimination. A column here is that of a matrix, not a node's. The lists
 -- may have any lengths; an entry that is missing counts as 0.
 --
--- noLine              : the line that stands past the end
--- lineAt s i          : the entries of line i of s
--- entry s i j         : the entry of line i in column j
--- filled f l n        : l with its first n entries replaced by f 0, f 1, ..
--- stepped c p s rows  : s, with c i times line p added to each line i below rows
--- lifted r p s        : s, with line p added to line r where they are two
+-- noLine               : the line that stands past the end
+-- lineAt s i           : the entries of line i of s
+-- entry s i j          : the entry of line i in column j
+-- filled f l n         : l with its first n entries replaced by f 0, f 1, ..
+-- stepped c p s rows   : s, with c i times line p added to each line i below rows
+-- lifted r p s         : s, with line p added to line r where they are two
 -- multiplierAt s r j i : what line i is given of line r, so that column j has 1 in line r and 0 elsewhere
--- pivotIn s j i n     : the first of n lines from i on whose entry in column j is not 0
+-- pivotIn s j i n      : the first of n lines from i on whose entry in column j is not 0
 -- pivotFrom s j i rows : the same of the lines from i on, below rows
--- unitLine m r        : line r of the unit square of m lines
--- unitSquare m        : the unit square of m lines
+-- unitLine m r         : line r of the unit square of m lines
+-- unitSquare m         : the unit square of m lines
 use mathlib.Core.Bool.{cond}
 use mathlib.Core.List.{List, []}
 use Prim.Native.Nat.{ℕ, zero, suc, _+_, _-_}

@@ -1,4 +1,4 @@
-// The coefficient square as an array of lines, passed by value through the steps of its elimination. A row of it is called
+// A square of coefficients as an array of lines, passed by value through the steps of its elimination. A row of it is called
 // a line, since `Row` is the number of a strip's row. `rows` and `columns` say how many lines and columns count; they may
 // differ. 80 is the largest kA of an accepted profile.
 ghost use mathlib.Core.Path.{_≡_};
@@ -37,7 +37,7 @@ struct Left {
     entries: [u8; 80],
 }
 
-// What an elimination comes to: with `Regular` the lines are those of the inverse, if rows and columns are equally many;
+// What an elimination comes to: with `Regular` the first lines are those of the inverse, if rows and columns are equally many;
 // with `Singular` those of the square as far as it is reduced, from which a vector is read off that the square takes to
 // zero.
 pub struct Eliminated {

@@ -14,16 +14,16 @@ use document::Refusal;
 use document::Surveyed;
 use square::Verdict;
 
-// Whether a set fails: whether the system of its unpaired strips has no inverse.
+// Whether a set fails: whether the system of its half pairs is singular.
 fn fails(p: Profile, set: &[u8]) -> bool
     requires { ⌜ Accepted p × Rising (p .n) (p .k) (now set) ⌝ }
     ensures { λ r. ⌜ r ≡ ambiguous p (now (set .entry)) ⌝ }
 {
-    let positions = unpaired::positions(set);
+    let positions = half_pairs::positions(set);
     let mut strips = [0u8; 80];
-    let count = unpaired::list_unpaired(&mut strips, p, set, &positions);
-    let table = unpaired::weight_table(p, set, &positions);
-    let s = unpaired::reduced_square(p, set, &table, &strips[..count]);
+    let count = half_pairs::list_half_pairs(&mut strips, p, set, &positions);
+    let table = half_pairs::weight_table(p, set, &positions);
+    let s = half_pairs::system_square(p, set, &table, &strips[..count]);
     let verdict = square::judge(s, count, count);
     match verdict {
         Verdict::Singular(_) => true,

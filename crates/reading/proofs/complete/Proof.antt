@@ -1,11 +1,11 @@
--- `reading::complete` meets its contract. The invariant: the unpaired strips before e are completed.
+-- `reading::complete` meets its contract. The invariant: the half pairs before e are completed.
 use mathlib.Core.Path.{_≡_, refl, ap, _∙_}
 use Prim.Native.Nat.{ℕ, _-_, _≤_}
 use native.Mathlib.Omega.{arith}
 use borrow.Author.Needs.{needs}
 use lib.ListN.{length}
 use Rattle.square.specs.Steps.{lineAt}
-use Rattle.unpaired.proofs.Reduced.{few-unpaired}
+use Rattle.half_pairs.proofs.System.{few-halves}
 use Rattle.reading.specs.Steps.{completedStrip, completed}
 use Rattle.reading.proofs.Partners.{completed-none, completed-next}
 use Rattle.reading.proofs.complete.Statement.{statement}
@@ -34,7 +34,7 @@ module _ (c : tie.In-loop Inv-loop μ-loop) where
       omega (
         arith,
         ap length (start .pre .0 .2),
-        few-unpaired (start .args .p) (start .args .nodes .now) (start .pre .0 .0) (start .pre .0 .1),
+        few-halves (start .args .p) (start .args .nodes .now) (start .pre .0 .0) (start .pre .0 .1),
       )
 
 mul-line : tie.Need-mul-line Inv-loop μ-loop

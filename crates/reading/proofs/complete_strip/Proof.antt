@@ -14,10 +14,10 @@ use Rattle.document.specs.declared.Place.{Place}
 use Rattle.document.specs.Bytes.{number}
 use Rattle.document.specs.Encoding.{factorAt}
 use Rattle.document.proofs.Bounds.{room, data-bound}
-use Rattle.unpaired.specs.Unpaired.{named, unpairedStrips, unpairedAt}
-use Rattle.unpaired.proofs.Reduced.{few-unpaired}
-use Rattle.reading.specs.Steps.{solvedStrip, completedStrip}
-use Rattle.reading.proofs.Partners.{solved-length, unpaired-below}
+use Rattle.half_pairs.specs.HalfPairs.{named, halfPairs, halfPairAt}
+use Rattle.half_pairs.proofs.System.{few-halves}
+use Rattle.reading.specs.Steps.{partnerStrip, completedStrip}
+use Rattle.reading.proofs.Partners.{partner-length, half-below}
 use Rattle.reading.proofs.complete_strip.Statement.{statement}
 use Rattle.reading.proofs.complete_strip.Tie as tie
 
@@ -31,24 +31,24 @@ module _ (s : tie.Start) where
   abbrev z : ℕ
   z = getD (s .args .strips .now) (s .args .e) 0
 
-  size : length (s .args .strips .now) ≡ length (unpairedStrips p nodes)
+  size : length (s .args .strips .now) ≡ length (halfPairs p nodes)
   size = ap length (s .pre .0 .2)
 
   few : length (s .args .strips .now) ≤ 80
-  few = omega (arith, size, few-unpaired p nodes (s .pre .0 .0) (s .pre .0 .1))
+  few = omega (arith, size, few-halves p nodes (s .pre .0 .0) (s .pre .0 .1))
 
   -- a line is an array of 80
   line-length : length (s .args .line .c) ≡ 80
   line-length = search needs
 
   -- the entry of the list of strips
-  strip : z ≡ unpairedAt p nodes (s .args .e)
+  strip : z ≡ halfPairAt p nodes (s .args .e)
   strip = ap (λ (l : List ℕ). getD l (s .args .e) 0) (s .pre .0 .2)
 
   below : z < p .k * p .a
   below =
       rw strip
-      (unpaired-below p (s .pre .0 .0) nodes (s .pre .0 .1) (s .args .e) (omega (arith, size, s .pre .1 .0)))
+      (half-below p (s .pre .0 .0) nodes (s .pre .0 .1) (s .args .e) (omega (arith, size, s .pre .1 .0)))
 
   -- the strip lies within y
   inside : z * p .s + p .s ≤ p .k * p .a * p .s
@@ -131,15 +131,15 @@ module _ (c : tie.After-combine) where
   abbrev u : List ℕ
   u = c .combine .last .0
 
-  solved : u ≡ solvedStrip (p begun) (nodes begun) (begun .args .line .c) (begun .args .r .now)
-  unfolding solvedStrip
+  solved : u ≡ partnerStrip (p begun) (nodes begun) (begun .args .line .c) (begun .args .r .now)
+  unfolding partnerStrip
   solved =
       c .combine .ensures
       ∙ ap₂ (λ (n m : ℕ). combinationOf (take n (begun .args .line .c)) (begun .args .r .now) 0 (p begun .s) m) (size begun)
       (sym (slice-aggregate-combine (c .before .before)))
 
   written : length u ≡ p begun .s
-  written = ap length solved ∙ solved-length (p begun) (nodes begun) _ _
+  written = ap length solved ∙ partner-length (p begun) (nodes begun) _ _
 
 mul-add-multiple : tie.Need-mul-add-multiple
 mul-add-multiple c =
@@ -174,7 +174,7 @@ returns c =
     ∙ ap₂ (λ (v : ℕ) (l : List ℕ). addedScaled v (z s * p s .s) l y) (factor f) (front (u w) _ (written w) ∙ solved w)
     ∙ ap
     (λ (m : ℕ). addedScaled (number (factorAt (p s) (m % p s .a) (named (nodes s) (m / p s .a) % p s .a))) (m * p s .s)
-    (solvedStrip (p s) (nodes s) (s .args .line .c) (s .args .r .now)) y) (strip s)
+    (partnerStrip (p s) (nodes s) (s .args .line .c) (s .args .r .now)) y) (strip s)
 
 pub complete-strip-spec : {M : Type 1} → statement M
 complete-strip-spec =

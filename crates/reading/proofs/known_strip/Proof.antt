@@ -19,8 +19,8 @@ use Rattle.document.specs.Encoding.{factorAt}
 use Rattle.document.proofs.Bounds.{room, square-bound, data-bound, partner-within}
 use Rattle.document.proofs.Reading.{joined-within}
 use Rattle.coefficients.specs.Weights.{positionIn}
-use Rattle.unpaired.specs.Unpaired.{named, partnerAt}
-use Rattle.unpaired.proofs.Named.{table-length, table-at}
+use Rattle.half_pairs.specs.HalfPairs.{named, partnerAt}
+use Rattle.half_pairs.proofs.Named.{table-length, table-at}
 use Rattle.reading.specs.Steps.{uncoupledStrip, knownStrip}
 use Rattle.reading.proofs.Known.{known-stored, known-pair}
 use Rattle.reading.proofs.known_strip.Statement.{statement}

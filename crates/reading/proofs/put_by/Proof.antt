@@ -13,8 +13,8 @@ use Rattle.lists.proofs.Listed.{listed-length}
 use Rattle.lists.proofs.Rising.{rising-length}
 use Rattle.document.specs.declared.Profile.{Profile}
 use Rattle.document.proofs.Bounds.{data-bound}
-use Rattle.unpaired.specs.Unpaired.{isNamed, partnerAt, unpairedStrips}
-use Rattle.reading.specs.Steps.{knownStrips, partnerStrips, completed, columnsFrom, dataBy}
+use Rattle.half_pairs.specs.HalfPairs.{isNamed, partnerAt, halfPairs}
+use Rattle.reading.specs.Steps.{knownStrips, knownPartnerStrips, completed, baseColumns, dataBy}
 use Rattle.reading.proofs.put_by.Statement.{statement}
 use Rattle.reading.proofs.put_by.Tie as tie
 
@@ -30,9 +30,9 @@ module _ (s : tie.Start) where
 
   -- the partners' strips are no more than all strips
   few : length (s .args .strips .now) * p .s ≤ p .k * p .a * p .s
-  unfolding unpairedStrips
+  unfolding halfPairs
   few =
-      let size : length (s .args .strips .now) ≡ length (unpairedStrips p nodes) = ap length (s .pre .1 .0 .1) in
+      let size : length (s .args .strips .now) ≡ length (halfPairs p nodes) = ap length (s .pre .1 .0 .1) in
       let short = rising-length (λ z. not (isNamed (p .k) nodes (partnerAt p nodes z .node .0))) (p .k * p .a) in
       mul-le-mul-right (p .s) (omega (arith, size, short))
 
@@ -53,14 +53,14 @@ module _ (c : tie.After-known-strips) where
   room : length (start .args .strips .now) * p start .s ≤ length (start .args .out .now)
   room = omega (arith, few start, start .pre .1 .1 .1)
 
-slice-relend-prefix-partner-strips : tie.Need-slice-relend-prefix-partner-strips
-slice-relend-prefix-partner-strips c = room (c .before .before)
+slice-relend-prefix-known-partners : tie.Need-slice-relend-prefix-known-partners
+slice-relend-prefix-known-partners c = room (c .before .before)
 
-slice-aggregate-partner-strips : tie.Need-slice-aggregate-partner-strips
-slice-aggregate-partner-strips c = sym (length-take-le _ _ (room (c .before .before .before)))
+slice-aggregate-known-partners : tie.Need-slice-aggregate-known-partners
+slice-aggregate-known-partners c = sym (length-take-le _ _ (room (c .before .before .before)))
 
-partner-strips-requires : tie.Need-partner-strips-requires
-partner-strips-requires c κs =
+known-partners-requires : tie.Need-known-partners-requires
+known-partners-requires c κs =
     let h = c .before .before .before .before in
     let s = start h in (
       (s .pre .0 .0, s .pre .0 .1, s .pre .1 .0 .0),
@@ -68,7 +68,7 @@ partner-strips-requires c κs =
     )
 
 -- past the partners' strips
-module _ (c : tie.After-partner-strips) where
+module _ (c : tie.After-known-partners) where
   abbrev known : tie.After-known-strips
   known = c .before .before .before .before .before
 
@@ -78,25 +78,25 @@ module _ (c : tie.After-partner-strips) where
   abbrev size : ℕ
   size = length (begun .args .strips .now) * p begun .s
 
-  made : c .partner-strips .last .0 ≡ partnerStrips (p begun) (nodes begun) (knownStrips (p begun) (nodes begun) (columns begun))
-  made = c .partner-strips .ensures ∙ ap (partnerStrips (p begun) (nodes begun)) (known .known-strips .ensures)
+  made : c .known-partners .last .0 ≡ knownPartnerStrips (p begun) (nodes begun) (knownStrips (p begun) (nodes begun) (columns begun))
+  made = c .known-partners .ensures ∙ ap (knownPartnerStrips (p begun) (nodes begun)) (known .known-strips .ensures)
 
-  written : length (c .partner-strips .last .0) ≡ size
-  written = c .partner-strips .kept .0 ∙ length-take-le _ _ (room known)
+  written : length (c .known-partners .last .0) ≡ size
+  written = c .known-partners .kept .0 ∙ length-take-le _ _ (room known)
 
-  lent : take size (c .partner-strips .last .0 ++ drop size (begun .args .out .now)) ≡ c .partner-strips .last .0
-  lent = front (c .partner-strips .last .0) _ written
+  lent : take size (c .known-partners .last .0 ++ drop size (begun .args .out .now)) ≡ c .known-partners .last .0
+  lent = front (c .known-partners .last .0) _ written
 
   -- the output has the length that it had
-  whole : length (c .partner-strips .last .0 ++ drop size (begun .args .out .now)) ≡ p begun .k * p begun .a * p begun .s
+  whole : length (c .known-partners .last .0 ++ drop size (begun .args .out .now)) ≡ p begun .k * p begun .a * p begun .s
   whole =
-      length-append (c .partner-strips .last .0) (drop size (begun .args .out .now))
+      length-append (c .known-partners .last .0) (drop size (begun .args .out .now))
       ∙ omega (arith, written, length-drop size (begun .args .out .now), room known, begun .pre .1 .1 .1)
 
 slice-reshare-prefix-complete : tie.Need-slice-reshare-prefix-complete
 slice-reshare-prefix-complete c =
     let t = c .before .before .before in
-    front-fits (t .partner-strips .last .0) _ (written t)
+    front-fits (t .known-partners .last .0) _ (written t)
 
 slice-aggregate-complete : tie.Need-slice-aggregate-complete
 slice-aggregate-complete c = sym (length-take-le _ _ (slice-reshare-prefix-complete (c .before)))
@@ -137,11 +137,11 @@ returns c =
     let s = begun t in
     let y : List ℕ = knownStrips (p s) (nodes s) (columns s) in
     e .put-columns .ensures
-    ∙ ap (columnsFrom (p s) (nodes s))
+    ∙ ap (baseColumns (p s) (nodes s))
     (d .complete .ensures
     ∙ ap₂ (λ (r z : List ℕ). completed (p s) (nodes s) (s .args .lines) r (length (s .args .strips .now)) z)
     (lent t ∙ made t) (known t .known-strips .ensures)
-    ∙ ap (λ (m : ℕ). completed (p s) (nodes s) (s .args .lines) (partnerStrips (p s) (nodes s) y) m y)
+    ∙ ap (λ (m : ℕ). completed (p s) (nodes s) (s .args .lines) (knownPartnerStrips (p s) (nodes s) y) m y)
     (ap length (s .pre .1 .0 .1)))
 
 pub put-by-spec : {M : Type 1} → statement M
@@ -150,9 +150,9 @@ put-by-spec =
     (tie.spec
     mul-partners
     known-strips-requires
-    slice-relend-prefix-partner-strips
-    slice-aggregate-partner-strips
-    partner-strips-requires
+    slice-relend-prefix-known-partners
+    slice-aggregate-known-partners
+    known-partners-requires
     slice-reshare-prefix-complete
     slice-aggregate-complete
     complete-requires

@@ -12,10 +12,10 @@ use Rattle.ksets.proofs.Ranked.{risen-length}
 use Rattle.strips.specs.Strips.{combinationOf, stripAt}
 use Rattle.document.proofs.Bounds.{room, table-bound, column-bound, data-bound}
 use Rattle.coefficients.specs.Weights.{positionIn}
-use Rattle.unpaired.specs.Unpaired.{isNamed, weightRow}
-use Rattle.unpaired.proofs.Named.{table-length, table-at}
-use Rattle.unpaired.proofs.Table.{row-length, row-at, weight-table-length}
-use Rattle.reading.specs.Steps.{columnFrom}
+use Rattle.half_pairs.specs.HalfPairs.{isNamed, weightRow}
+use Rattle.half_pairs.proofs.Named.{table-length, table-at}
+use Rattle.half_pairs.proofs.Table.{row-length, row-at, weight-table-length}
+use Rattle.reading.specs.Steps.{baseColumn}
 use Rattle.reading.proofs.put_column.Statement.{statement}
 use Rattle.reading.proofs.put_column.Tie as tie
 
@@ -88,7 +88,7 @@ same-length : tie.Need-same-length
 same-length c = search needs
 
 returns : tie.Need-returns
-unfolding columnFrom
+unfolding baseColumn
 returns c =
     let f = c .before .before in
     let t = f .before .before in
@@ -138,7 +138,7 @@ same-length-2 : tie.Need-same-length-2
 same-length-2 c = search needs
 
 returns-2 : tie.Need-returns-2
-unfolding columnFrom
+unfolding baseColumn
 returns-2 c =
     let f = c .before .before in
     let t = f .before .before .before in

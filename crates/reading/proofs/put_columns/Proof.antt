@@ -9,14 +9,14 @@ use lib.ListN.{length, take, drop, length-take, length-drop}
 use lib.Seq.{take-all}
 use Rattle.lists.proofs.Parts.{parts, none-parts, next-part}
 use Rattle.document.proofs.Bounds.{room, column-bound, data-bound}
-use Rattle.reading.specs.Steps.{columnFrom, columnsFrom}
+use Rattle.reading.specs.Steps.{baseColumn, baseColumns}
 use Rattle.reading.proofs.Columns.{column-length}
 use Rattle.reading.proofs.put_columns.Statement.{statement}
 use Rattle.reading.proofs.put_columns.Tie as tie
 
 abbrev Inv-loop : tie.InvT-loop
 Inv-loop out₀ p nodes positions table y k width j₀ out j =
-    (j ≤ p .k) × (length out ≡ p .k * (p .a * p .s)) × (take (j * width) out ≡ parts width (columnFrom p nodes y) j)
+    (j ≤ p .k) × (length out ≡ p .k * (p .a * p .s)) × (take (j * width) out ≡ parts width (baseColumn p nodes y) j)
 
 abbrev μ-loop : tie.MeasureT-loop
 μ-loop out₀ p nodes positions table y k width j₀ out j = p .k - j
@@ -41,7 +41,7 @@ module _ (s : tie.Start Inv-loop μ-loop) where
 loop-holds : tie.Need-loop-holds Inv-loop μ-loop
 loop-holds c =
     let s = opened c in
-    (omega arith, size s, none-parts (w s) (columnFrom (s .args .p) (s .args .nodes .now) (s .args .y .now)) (s .args .out .now))
+    (omega arith, size s, none-parts (w s) (baseColumn (s .args .p) (s .args .nodes .now) (s .args .y .now)) (s .args .out .now))
 
 -- in a turn the column lies within the output
 module _ (c : tie.In-loop Inv-loop μ-loop) where
@@ -97,7 +97,7 @@ loop-again c =
     let t = d .before .before in
     let l = t .before .loop in
     let s = start t in
-    let column = columnFrom (s .args .p) (s .args .nodes .now) (s .args .y .now) in (
+    let column = baseColumn (s .args .p) (s .args .nodes .now) (s .args .y .now) in (
       omega (arith, t .loop-test .taken),
       search needs,
       next-part (w s) column (l .j) (column-length (s .args .p) (s .args .nodes .now) (s .args .y .now) (l .j)) (l .out) _ _
@@ -108,14 +108,14 @@ same-length : tie.Need-same-length Inv-loop μ-loop
 same-length c = let s = opened (c .before .before) in c .before .loop .inv .1 ∙ sym (size s)
 
 returns : tie.Need-returns Inv-loop μ-loop
-unfolding columnsFrom
+unfolding baseColumns
 returns c =
     let l = c .before .loop in
     let s = opened (c .before .before) in
     let p = s .args .p in
     let e : l .j ≡ p .k = omega (arith, c .loop-test .left, l .inv .0) in
     sym (take-all (p .k * w s) (l .out) (omega (arith, l .inv .1)))
-    ∙ subst (λ (j : ℕ). take (j * w s) (l .out) ≡ parts (w s) (columnFrom p (s .args .nodes .now) (s .args .y .now)) j) e (l .inv .2)
+    ∙ subst (λ (j : ℕ). take (j * w s) (l .out) ≡ parts (w s) (baseColumn p (s .args .nodes .now) (s .args .y .now)) j) e (l .inv .2)
 
 pub put-columns-spec : {M : Type 1} → statement M
 put-columns-spec =

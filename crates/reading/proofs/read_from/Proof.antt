@@ -6,14 +6,15 @@ use native.Mathlib.Omega.{arith}
 use borrow.Author.Needs.{needs}
 use lib.ListN.{length}
 use lib.Seq.{length-take-le}
+use Rattle.lists.proofs.Put.{wrote-front}
 use Rattle.ksets.proofs.Ranked.{risen-length}
 use Rattle.square.specs.declared.Line.{Line}
 use Rattle.square.specs.declared.Eliminated.{Eliminated}
 use Rattle.square.specs.Steps.{unitSquare}
 use Rattle.square.specs.Elimination.{eliminated, verdictAndLines}
 use Rattle.document.specs.declared.Answer.the-variants.{Done}
-use Rattle.unpaired.specs.Unpaired.{unpairedStrips, reducedEnd}
-use Rattle.unpaired.proofs.Reduced.{few-unpaired, stuck-ambiguous, regular-inverse, regular-clear}
+use Rattle.half_pairs.specs.HalfPairs.{halfPairs, systemEnd}
+use Rattle.half_pairs.proofs.System.{few-halves, stuck-ambiguous, regular-inverse, regular-clear}
 use Rattle.reading.specs.Steps.{dataBy, readingAnswer}
 use Rattle.reading.proofs.Data.{data-by}
 use Rattle.reading.proofs.read_from.Statement.{statement}
@@ -24,14 +25,14 @@ positions-requires c κs =
     let s = c .before .before .before in
     omega (arith, risen-length (s .pre .0 .1), s .pre .0 .0 .shape .some-parity, s .pre .0 .0 .shape .few-nodes)
 
-slice-aggregate-list-unpaired : tie.Need-slice-aggregate-list-unpaired
-slice-aggregate-list-unpaired c = search needs
+slice-aggregate-list-half-pairs : tie.Need-slice-aggregate-list-half-pairs
+slice-aggregate-list-half-pairs c = search needs
 
-slice-aggregate-list-unpaired-2 : tie.Need-slice-aggregate-list-unpaired-2
-slice-aggregate-list-unpaired-2 c = search needs
+slice-aggregate-list-half-pairs-2 : tie.Need-slice-aggregate-list-half-pairs-2
+slice-aggregate-list-half-pairs-2 c = search needs
 
-list-unpaired-requires : tie.Need-list-unpaired-requires
-list-unpaired-requires c κs = search needs
+list-half-pairs-requires : tie.Need-list-half-pairs-requires
+list-half-pairs-requires c κs = search needs
 
 slice-aggregate-weight-table : tie.Need-slice-aggregate-weight-table
 slice-aggregate-weight-table c = search needs
@@ -39,51 +40,51 @@ slice-aggregate-weight-table c = search needs
 weight-table-requires : tie.Need-weight-table-requires
 weight-table-requires c κs = search needs
 
-slice-aggregate-reduced-square : tie.Need-slice-aggregate-reduced-square
-slice-aggregate-reduced-square c = search needs
+slice-aggregate-system-square : tie.Need-slice-aggregate-system-square
+slice-aggregate-system-square c = search needs
 
--- past the list of the unpaired strips
-module _ (c : tie.After-list-unpaired) where
+-- past the list of the half pairs
+module _ (c : tie.After-list-half-pairs) where
   abbrev start : tie.Start
   start = c .before .before .before .before .before .before .before
 
-  few : length (unpairedStrips (start .args .p) (start .args .nodes .now)) ≤ 80
-  few = few-unpaired (start .args .p) (start .args .nodes .now) (start .pre .0 .0) (start .pre .0 .1)
+  few : length (halfPairs (start .args .p) (start .args .nodes .now)) ≤ 80
+  few = few-halves (start .args .p) (start .args .nodes .now) (start .pre .0 .0) (start .pre .0 .1)
 
-  count : c .list-unpaired .result ≤ 80
-  count = omega (arith, few, c .list-unpaired .ensures .0)
+  count : c .list-half-pairs .result ≤ 80
+  count = omega (arith, few, wrote-front (c .list-half-pairs .ensures) .0)
 
 array-share-prefix-strips : tie.Need-array-share-prefix-strips
 array-share-prefix-strips c =
     let l = c .before .before .before .before in
-    omega (arith, count l, l .list-unpaired .kept .0)
+    omega (arith, count l, l .list-half-pairs .kept .0)
 
-slice-aggregate-reduced-square-2 : tie.Need-slice-aggregate-reduced-square-2
-slice-aggregate-reduced-square-2 c = sym (length-take-le _ _ (array-share-prefix-strips (c .before)))
+slice-aggregate-system-square-2 : tie.Need-slice-aggregate-system-square-2
+slice-aggregate-system-square-2 c = sym (length-take-le _ _ (array-share-prefix-strips (c .before)))
 
-reduced-square-requires : tie.Need-reduced-square-requires
-reduced-square-requires c κs =
+system-square-requires : tie.Need-system-square-requires
+system-square-requires c κs =
     let w = c .before .before in
     let l = w .before .before .before in
     let s = start l in
-    ((s .pre .0 .0, s .pre .0 .1, w .weight-table .ensures), l .list-unpaired .ensures .1)
+    ((s .pre .0 .0, s .pre .0 .1, w .weight-table .ensures), wrote-front (l .list-half-pairs .ensures) .1)
 
 invert-requires : tie.Need-invert-requires
 invert-requires c κs = let h = count (c .before .before .before .before .before .before) in (h, h)
 
 -- past the elimination: how that of the small system ends
 module _ (c : tie.After-invert) where
-  abbrev listed : tie.After-list-unpaired
+  abbrev listed : tie.After-list-half-pairs
   listed = c .before .before .before .before .before .before .before
 
   abbrev s : tie.Start
   s = start listed
 
-  inverted : c .invert .result ≡ verdictAndLines (reducedEnd (s .args .p) (s .args .nodes .now))
+  inverted : c .invert .result ≡ verdictAndLines (systemEnd (s .args .p) (s .args .nodes .now))
   inverted =
       c .invert .ensures
       ∙ ap₂ (λ (m : ℕ) (q : List Line). verdictAndLines (eliminated m m q (unitSquare 80)))
-      (listed .list-unpaired .ensures .0) (c .before .reduced-square .ensures)
+      (wrote-front (listed .list-half-pairs .ensures) .0) (c .before .system-square .ensures)
 
 enum-told : tie.Need-enum-told
 enum-told c = search needs
@@ -112,7 +113,7 @@ put-data-requires c κs =
     let w = i .before .before .before .before in
     let t = s i in (
       (t .pre .0 .0, t .pre .0 .1, l .before .before .before .positions .ensures),
-      ((w .weight-table .ensures, l .list-unpaired .ensures .1), (t .pre .1 .0, t .pre .1 .1)),
+      ((w .weight-table .ensures, wrote-front (l .list-half-pairs .ensures) .1), (t .pre .1 .0, t .pre .1 .1)),
     )
 
 returns : tie.Need-returns
@@ -149,15 +150,15 @@ read-from-spec =
     tie.close
     (tie.spec
     positions-requires
-    slice-aggregate-list-unpaired
-    slice-aggregate-list-unpaired-2
-    list-unpaired-requires
+    slice-aggregate-list-half-pairs
+    slice-aggregate-list-half-pairs-2
+    list-half-pairs-requires
     slice-aggregate-weight-table
     weight-table-requires
-    slice-aggregate-reduced-square
+    slice-aggregate-system-square
     array-share-prefix-strips
-    slice-aggregate-reduced-square-2
-    reduced-square-requires
+    slice-aggregate-system-square-2
+    system-square-requires
     invert-requires
     enum-told
     enum-told-2

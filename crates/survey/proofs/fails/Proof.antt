@@ -1,4 +1,4 @@
--- `survey::fails` meets its contract: the verdict on the system of the unpaired strips tells whether the set is ambiguous.
+-- `survey::fails` meets its contract: the verdict on the system of the half pairs tells whether the set is ambiguous.
 use mathlib.Core.Path.{_≡_, sym, ap, ap₂, _∙_}
 use mathlib.Core.List.{List}
 use Prim.Native.Nat.{ℕ, _≤_}
@@ -6,12 +6,13 @@ use native.Mathlib.Omega.{arith}
 use borrow.Author.Needs.{needs}
 use lib.ListN.{length}
 use lib.Seq.{length-take-le}
+use Rattle.lists.proofs.Put.{wrote-front}
 use Rattle.ksets.proofs.Ranked.{risen-length}
 use Rattle.square.specs.declared.Line.{Line}
 use Rattle.square.specs.Steps.{unitSquare}
 use Rattle.square.specs.Elimination.{eliminated, verdictAndLines}
-use Rattle.unpaired.specs.Unpaired.{unpairedStrips, reducedEnd}
-use Rattle.unpaired.proofs.Reduced.{few-unpaired, stuck-ambiguous, regular-clear}
+use Rattle.half_pairs.specs.HalfPairs.{halfPairs, systemEnd}
+use Rattle.half_pairs.proofs.System.{few-halves, stuck-ambiguous, regular-clear}
 use Rattle.survey.proofs.fails.Statement.{statement}
 use Rattle.survey.proofs.fails.Tie as tie
 
@@ -20,14 +21,14 @@ positions-requires c κs =
     let s = c .before in
     omega (arith, risen-length (s .pre .1), s .pre .0 .shape .some-parity, s .pre .0 .shape .few-nodes)
 
-slice-aggregate-list-unpaired : tie.Need-slice-aggregate-list-unpaired
-slice-aggregate-list-unpaired c = search needs
+slice-aggregate-list-half-pairs : tie.Need-slice-aggregate-list-half-pairs
+slice-aggregate-list-half-pairs c = search needs
 
-slice-aggregate-list-unpaired-2 : tie.Need-slice-aggregate-list-unpaired-2
-slice-aggregate-list-unpaired-2 c = search needs
+slice-aggregate-list-half-pairs-2 : tie.Need-slice-aggregate-list-half-pairs-2
+slice-aggregate-list-half-pairs-2 c = search needs
 
-list-unpaired-requires : tie.Need-list-unpaired-requires
-list-unpaired-requires c κs = search needs
+list-half-pairs-requires : tie.Need-list-half-pairs-requires
+list-half-pairs-requires c κs = search needs
 
 slice-aggregate-weight-table : tie.Need-slice-aggregate-weight-table
 slice-aggregate-weight-table c = search needs
@@ -35,34 +36,34 @@ slice-aggregate-weight-table c = search needs
 weight-table-requires : tie.Need-weight-table-requires
 weight-table-requires c κs = search needs
 
-slice-aggregate-reduced-square : tie.Need-slice-aggregate-reduced-square
-slice-aggregate-reduced-square c = search needs
+slice-aggregate-system-square : tie.Need-slice-aggregate-system-square
+slice-aggregate-system-square c = search needs
 
--- past the list of the unpaired strips
-module _ (c : tie.After-list-unpaired) where
+-- past the list of the half pairs
+module _ (c : tie.After-list-half-pairs) where
   abbrev start : tie.Start
   start = c .before .before .before .before .before
 
-  few : length (unpairedStrips (start .args .p) (start .args .set .now)) ≤ 80
-  few = few-unpaired (start .args .p) (start .args .set .now) (start .pre .0) (start .pre .1)
+  few : length (halfPairs (start .args .p) (start .args .set .now)) ≤ 80
+  few = few-halves (start .args .p) (start .args .set .now) (start .pre .0) (start .pre .1)
 
-  count : c .list-unpaired .result ≤ 80
-  count = omega (arith, few, c .list-unpaired .ensures .0)
+  count : c .list-half-pairs .result ≤ 80
+  count = omega (arith, few, wrote-front (c .list-half-pairs .ensures) .0)
 
 array-share-prefix-strips : tie.Need-array-share-prefix-strips
 array-share-prefix-strips c =
     let l = c .before .before .before .before in
-    omega (arith, count l, l .list-unpaired .kept .0)
+    omega (arith, count l, l .list-half-pairs .kept .0)
 
-slice-aggregate-reduced-square-2 : tie.Need-slice-aggregate-reduced-square-2
-slice-aggregate-reduced-square-2 c = sym (length-take-le _ _ (array-share-prefix-strips (c .before)))
+slice-aggregate-system-square-2 : tie.Need-slice-aggregate-system-square-2
+slice-aggregate-system-square-2 c = sym (length-take-le _ _ (array-share-prefix-strips (c .before)))
 
-reduced-square-requires : tie.Need-reduced-square-requires
-reduced-square-requires c κs =
+system-square-requires : tie.Need-system-square-requires
+system-square-requires c κs =
     let w = c .before .before in
     let l = w .before .before .before in
     let s = start l in
-    ((s .pre .0, s .pre .1, w .weight-table .ensures), l .list-unpaired .ensures .1)
+    ((s .pre .0, s .pre .1, w .weight-table .ensures), wrote-front (l .list-half-pairs .ensures) .1)
 
 judge-requires : tie.Need-judge-requires
 judge-requires c κs =
@@ -70,17 +71,17 @@ judge-requires c κs =
 
 -- past the elimination: the verdict is that on the system of the set
 module _ (c : tie.After-judge) where
-  abbrev listed : tie.After-list-unpaired
+  abbrev listed : tie.After-list-half-pairs
   listed = c .before .before .before .before .before .before .before
 
   abbrev s : tie.Start
   s = start listed
 
-  judged : c .judge .result ≡ verdictAndLines (reducedEnd (s .args .p) (s .args .set .now)) .verdict
+  judged : c .judge .result ≡ verdictAndLines (systemEnd (s .args .p) (s .args .set .now)) .verdict
   judged =
       c .judge .ensures
       ∙ ap₂ (λ (m : ℕ) (q : List Line). verdictAndLines (eliminated m m q (unitSquare 80)) .verdict)
-      (listed .list-unpaired .ensures .0) (c .before .reduced-square .ensures)
+      (wrote-front (listed .list-half-pairs .ensures) .0) (c .before .system-square .ensures)
 
 enum-told : tie.Need-enum-told
 enum-told c = search needs
@@ -103,15 +104,15 @@ fails-spec =
     tie.close
     (tie.spec
     positions-requires
-    slice-aggregate-list-unpaired
-    slice-aggregate-list-unpaired-2
-    list-unpaired-requires
+    slice-aggregate-list-half-pairs
+    slice-aggregate-list-half-pairs-2
+    list-half-pairs-requires
     slice-aggregate-weight-table
     weight-table-requires
-    slice-aggregate-reduced-square
+    slice-aggregate-system-square
     array-share-prefix-strips
-    slice-aggregate-reduced-square-2
-    reduced-square-requires
+    slice-aggregate-system-square-2
+    system-square-requires
     judge-requires
     enum-told
     enum-told-2

@@ -1,0 +1,5 @@
+pub mod Named
+pub mod Selected
+pub mod Symbols
+pub mod Table
+pub mod System

@@ -1,5 +1,0 @@
-pub mod Named
-pub mod Selected
-pub mod Symbols
-pub mod Table
-pub mod Reduced
