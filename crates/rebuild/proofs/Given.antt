@@ -1,6 +1,5 @@
 -- What is given for the planned places: where a node's places stand in the plan, and the strip folded from there.
 use mathlib.Core.Path.{_≡_, sym, ap, ap₂, _∙_}
-use mathlib.Core.Logic.{_≢_}
 use mathlib.Core.Bool.{true, false}
 use mathlib.Core.List.{List, [], _∷_, _++_}
 use Prim.Native.Nat.{ℕ, _+_, _*_, _%_, _<_}
@@ -24,17 +23,13 @@ use Rattle.document.specs.Rebuild.{positionOf, givenAt}
 use Rattle.document.proofs.Bytes.{number-byte, number-add, number-mul}
 use Rattle.document.proofs.Bounds.{A>0}
 use Rattle.document.proofs.Walks.{walk-sound}
-use Rattle.document.proofs.Planned.{off-is, over-distinct}
+use Rattle.document.proofs.Planned.{over-distinct}
 use Rattle.document.proofs.Chosen.{position-at}
 use Rattle.plan.specs.Steps.{placesAt, placesOf}
 use Rattle.plan.proofs.Places.{single, pair, split-places}
 use Rattle.plan.proofs.Walked.{plan-places}
 use Rattle.rebuild.specs.Folded.{foldedOf, NodeAt}
 use Rattle.rebuild.proofs.Folded.{folded-single, folded-pair, folded-one}
-
--- a node off the diagonal has another local column
-pub off-column : (A : ℕ) (f : Node) (j : ℕ) → isOffDiagonal A f j ≡ true → f .0 % A ≢ j % A
-off-column A f j e c = off-is A f j .0 e .1 (sym c)
 
 -- how many places are read at a node
 module _ (A : ℕ) (f : Node) (j m : ℕ) where

@@ -8,7 +8,6 @@ ghost use lib.ListN.{length};
 ghost use Rattle.strips.specs.Strips.{addedScaled};
 ghost use Rattle.document.specs.Bytes.{number};
 ghost use Rattle.document.specs.Profile.{Accepted};
-ghost use Rattle.document.specs.Encoding.{factorAt};
 ghost use Rattle.document.specs.Plan.{walkOf, chosenOver, nodesOver, planned};
 ghost use Rattle.document.specs.Rebuild.{givenAt, rebuiltOf, rebuildOf};
 ghost use Rattle.plan.specs.Steps.{placesAt};
@@ -29,26 +28,24 @@ use document::Refusal;
 use document::Row;
 use plan::Step;
 
-// Adds the partner's strip, times the factor of row c at local column l. The factor 1 needs no product. For a small one
-// the strip is copied, since `add_multiple` uses its strip up; from 16 on the copy costs more than it saves.
-fn add_partner(x: &mut [u8], strip: &[u8], p: Profile, c: usize, l: usize)
-    requires { ⌜ Accepted p × (c ≢ l) × (length (now strip) ≡ length (now x)) × (length (now x) ≤ 512) ⌝ }
-    ensures { λ _. ⌜ now (x .exit)
-        ≡ addedScaled (number (factorAt p c l)) 0 (now (strip .entry)) (now (x .entry)) ⌝ }
+// Adds c times a strip. Half of the factors are 1, which needs no product. For another small one the strip is copied,
+// since `add_multiple` uses its strip up; from 16 on the copy costs more than it saves.
+fn add_times(x: &mut [u8], strip: &[u8], c: u8)
+    requires { ⌜ (length (now strip) ≡ length (now x)) × (length (now x) ≤ 512) ⌝ }
+    ensures { λ _. ⌜ now (x .exit) ≡ addedScaled c 0 (now (strip .entry)) (now (x .entry)) ⌝ }
 {
-    if c < l {
+    if c == 1 {
         strips::add(x, 0, strip);
         return;
     }
-    let t = p.constant(Row(c), l);
-    if t >= 16 {
-        strips::add_scaled(x, 0, strip, t);
+    if c >= 16 {
+        strips::add_scaled(x, 0, strip, c);
         return;
     }
     let s = strip.len();
     let mut u = [0u8; Profile::MAX_STRIP];
     strips::copy(&mut u[..s], strip, 0);
-    strips::add_multiple(x, 0, &mut u[..s], t);
+    strips::add_multiple(x, 0, &mut u[..s], c);
 }
 
 // Folds the strips that are read at node j into one; they stand in the plan from place m on. Returns the place after.
@@ -71,7 +68,9 @@ fn fold_strip(
     if plan::in_step(Step::OffDiagonal, p, f, j) {
         let from = first + (m + 1) * stride;
         let end = from + p.s;
-        add_partner(out, &src[from..end], p, f.0 % p.a, j % p.a);
+        let c = f.0 % p.a;
+        let t = p.factor(Row(c), j % p.a);
+        add_times(out, &src[from..end], t);
         return m + 2;
     }
     m + 1
@@ -219,7 +218,7 @@ fn sum_row(
         let from = own * s;
         let end = from + s;
         let c = own_scale(p, f, i);
-        strips::add_scaled(dst, 0, &folded[from..end], c);
+        add_times(dst, &folded[from..end], c);
     }
 }
 

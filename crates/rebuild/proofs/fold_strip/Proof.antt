@@ -15,7 +15,7 @@ use Rattle.document.specs.Rebuild.{givenAt}
 use Rattle.document.proofs.Price.{planned-price}
 use Rattle.plan.specs.Steps.{inStep, placesAt}
 use Rattle.rebuild.specs.Folded.{foldedOf}
-use Rattle.rebuild.proofs.Given.{one-place, two-places, off-column, single-folded, pair-folded}
+use Rattle.rebuild.proofs.Given.{one-place, two-places, single-folded, pair-folded}
 use Rattle.rebuild.proofs.fold_strip.Statement.{statement}
 use Rattle.rebuild.proofs.fold_strip.Tie as tie
 
@@ -68,23 +68,26 @@ module _ (t : tie.Then1) where
   next-within : from + s .args .p .s ≤ length (s .args .src .now)
   next-within = s .pre .1 .0 .reach (s .args .m + 1) (omega (arith, s .pre .1 .1 .inside, two))
 
-  partner : take (from + s .args .p .s - from) (drop from (s .args .src .now))
-      ≡ stripAt (s .args .src .now) from (s .args .p .s)
+  -- the partner's strip, as it is lent
+  abbrev lent : List ℕ
+  lent = take (from + s .args .p .s - from) (drop from (s .args .src .now))
+
+  partner : lent ≡ stripAt (s .args .src .now) from (s .args .p .s)
   partner = strip-part (s .args .src .now) from (s .args .p .s) next-within
 
-  as-long : length (take (from + s .args .p .s - from) (drop from (s .args .src .now))) ≡ length (copy .copy .last .0)
+  as-long : length lent ≡ length (copy .copy .last .0)
   as-long =
       ap length partner ∙ strip-length (s .args .src .now) from (s .args .p .s) ∙ sym (copied-length copy)
 
-  folded : {z : List ℕ}
-      → z ≡ addedScaled (number (factorAt (s .args .p) (s .args .f .0 % s .args .p .a)
-      (s .args .j % s .args .p .a))) 0 (take (from + s .args .p .s - from) (drop from (s .args .src .now)))
-      (copy .copy .last .0)
+  folded : {v : ℕ} {z : List ℕ}
+      → v ≡ number (factorAt (s .args .p) (s .args .f .0 % s .args .p .a) (s .args .j % s .args .p .a))
+      → z ≡ addedScaled v 0 lent (copy .copy .last .0)
       → z ≡ foldedOf (s .args .p) (s .args .f)
       (givenAt (planned (s .args .p) (s .args .f)) (s .args .src .now) (s .args .first) (s .args .stride))
       (s .args .j ∷ [])
-  folded e =
-      e ∙ ap₂ (addedScaled _ 0) partner (copied copy)
+  folded same e =
+      e ∙ ap (λ (v : ℕ). addedScaled v 0 lent (copy .copy .last .0)) same
+      ∙ ap₂ (addedScaled _ 0) partner (copied copy)
       ∙ pair-folded (s .args .p) (s .pre .0 .0) (s .args .f) (s .pre .0 .1) (s .args .src .now) (small copy)
       (s .args .first) (s .args .stride) (s .args .j) (s .args .m) (s .pre .1 .1) off
 
@@ -112,30 +115,32 @@ add-from-2 c = omega (arith, next-within c)
 add-end : tie.Need-add-end
 add-end c = omega (arith, next-within (c .before))
 
-sub-add-partner : tie.Need-sub-add-partner
-sub-add-partner c = search needs
+rem-c : tie.Need-rem-c
+rem-c c = search needs
 
-part-add-partner-start : tie.Need-part-add-partner-start
-part-add-partner-start c = search needs
+rem-factor : tie.Need-rem-factor
+rem-factor c = search needs
 
-part-add-partner-end : tie.Need-part-add-partner-end
-part-add-partner-end c = next-within (c .before .before)
+factor-requires : tie.Need-factor-requires
+factor-requires c κs = search needs
 
-rem-add-partner : tie.Need-rem-add-partner
-rem-add-partner c = search needs
+sub-add-times : tie.Need-sub-add-times
+sub-add-times c = search needs
 
-rem-add-partner-2 : tie.Need-rem-add-partner-2
-rem-add-partner-2 c = search needs
+part-add-times-start : tie.Need-part-add-times-start
+part-add-times-start c = search needs
 
-add-partner-requires : tie.Need-add-partner-requires
-add-partner-requires c κs =
-    let t = c .before .before .before .before .before .before in
-    let a = s t .args in
-    (s t .pre .0 .0, off-column (a .p .a) (a .f) (a .j) (off t), as-long t, omega (arith, copied-length (copy t), s t .pre .0 .0 .short))
+part-add-times-end : tie.Need-part-add-times-end
+part-add-times-end c = next-within (c .before .before .before .before .before .before)
+
+add-times-requires : tie.Need-add-times-requires
+add-times-requires c κs =
+    let t = c .before .before .before .before .before .before .before in
+    (as-long t, omega (arith, copied-length (copy t), s t .pre .0 .0 .short))
 
 add-result : tie.Need-add-result
 add-result c =
-    let t = c .before .before .before .before .before .before .before .before .before in
+    let t = c .before .before .before .before .before .before .before .before .before .before in
     omega (arith, few-places (s t), s t .pre .1 .1 .inside, two t)
 
 same-length : tie.Need-same-length
@@ -143,8 +148,10 @@ same-length c = search needs
 
 returns : tie.Need-returns
 returns c =
-    let t = c .before .before .before .before .before .before .before .before .before in
-    (two t, folded t (c .before .before .add-partner .ensures))
+    let w = c .before .before in
+    let g = w .before .before .before in
+    let t = g .before .before .before .before .before in
+    (two t, folded t (g .factor .ensures) (w .add-times .ensures))
 
 -- where it says that it is not
 on : (c : tie.Else1)
@@ -191,12 +198,13 @@ fold-strip-spec =
     mul-from
     add-from-2
     add-end
-    sub-add-partner
-    part-add-partner-start
-    part-add-partner-end
-    rem-add-partner
-    rem-add-partner-2
-    add-partner-requires
+    rem-c
+    rem-factor
+    factor-requires
+    sub-add-times
+    part-add-times-start
+    part-add-times-end
+    add-times-requires
     add-result
     same-length
     returns

@@ -1,12 +1,13 @@
 -- `rebuild::sum_row` meets its contract: the folded strips lie past the group's, and strip `own` is one of these.
-use mathlib.Core.Path.{_≡_, ap, _∙_}
+use mathlib.Core.Path.{_≡_, sym, ap, _∙_}
 use mathlib.Core.List.{List}
 use Prim.Native.Nat.{ℕ, _+_, _-_, _*_, _≤_}
 use native.Mathlib.Omega.{arith}
 use borrow.Author.Needs.{needs}
 use lib.ListN.{length, take, drop}
 use Rattle.strips.specs.Strips.{combinationOf, stripAt}
-use Rattle.strips.proofs.Strip.{strip-lent}
+use Rattle.strips.proofs.Strip.{strip-length, strip-lent}
+use Rattle.strips.proofs.Combination.{combination-length}
 use Rattle.document.specs.declared.Profile.{Profile}
 use Rattle.document.proofs.Bounds.{room, column-bound}
 use Rattle.rebuild.proofs.Row.{row-lost, row-other}
@@ -26,6 +27,9 @@ module _ (c : tie.After-combine) where
 
   summed : c .combine .last .0 ≡ combination (given .args .p .s)
   summed = c .combine .ensures ∙ ap combination (given .pre .0 .1)
+
+  size : length (c .combine .last .0) ≡ given .args .p .s
+  size = ap length summed ∙ combination-length _ _ _ _ _
 
 -- where strip `own` lies
 module _ (c : tie.Then1) where
@@ -87,17 +91,20 @@ add-end c = omega (arith, bound c)
 own-scale-requires : tie.Need-own-scale-requires
 own-scale-requires c κs = search needs
 
-sub-add-scaled : tie.Need-sub-add-scaled
-sub-add-scaled c = search needs
+sub-add-times : tie.Need-sub-add-times
+sub-add-times c = search needs
 
-part-add-scaled-start : tie.Need-part-add-scaled-start
-part-add-scaled-start c = search needs
+part-add-times-start : tie.Need-part-add-times-start
+part-add-times-start c = search needs
 
-part-add-scaled-end : tie.Need-part-add-scaled-end
-part-add-scaled-end c = inside (c .before .before)
+part-add-times-end : tie.Need-part-add-times-end
+part-add-times-end c = inside (c .before .before)
 
-add-scaled-requires : tie.Need-add-scaled-requires
-add-scaled-requires c κs = search needs
+add-times-requires : tie.Need-add-times-requires
+add-times-requires c κs =
+    let t = c .before .before .before in
+    let w = t .before .before .before .before .before in
+    (ap length (lent t) ∙ strip-length _ _ _ ∙ sym (size w), omega (arith, size w, given w .pre .0 .0 .short))
 
 same-length : tie.Need-same-length
 same-length c = search needs
@@ -106,7 +113,7 @@ returns : tie.Need-returns
 returns c =
     let t = c .before .before .before .before .before .before in
     let s = start t in
-    c .before .before .add-scaled .ensures
+    c .before .before .add-times .ensures
     ∙ row-other (s .args .p) (s .args .f) (s .args .i) (s .args .own) (s .args .coefficients .now)
     (s .args .folded .now) (summed (t .before .before .before .before .before)) (lent t)
     (c .before .before .before .before .before .own-scale .ensures) (t .if1 .taken)
@@ -131,10 +138,10 @@ sum-row-spec =
     mul-from
     add-end
     own-scale-requires
-    sub-add-scaled
-    part-add-scaled-start
-    part-add-scaled-end
-    add-scaled-requires
+    sub-add-times
+    part-add-times-start
+    part-add-times-end
+    add-times-requires
     same-length
     returns
     same-length-2

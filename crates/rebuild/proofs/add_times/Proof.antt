@@ -1,21 +1,17 @@
--- `rebuild::add_partner` meets its contract: the factor is 1 where c < l, and the coupling constant where c > l.
-use mathlib.Core.Path.{_≡_, sym, ap, ap₂, _∙_}
+-- `rebuild::add_times` meets its contract: adding once is adding with the factor 1, and the copy is the strip.
+use mathlib.Core.Path.{_≡_, sym, ap, _∙_}
 use mathlib.Core.List.{List}
-use Prim.Native.Nat.{ℕ, _<_}
+use Prim.Native.Nat.{ℕ}
 use native.Mathlib.Omega.{arith}
 use borrow.Author.Needs.{needs}
 use lib.ListN.{length}
 use lib.Seq.{length-take-le}
 use Rattle.lists.proofs.Lent.{front-fits, front}
-use Rattle.algebra.proofs.Coupling.{factor-upper, factor-lower}
 use Rattle.strips.specs.Strips.{addedScaled}
 use Rattle.strips.proofs.Strip.{strip-all}
 use Rattle.strips.proofs.Added.{added-once}
-use Rattle.document.specs.Bytes.{bytes, number}
-use Rattle.document.specs.Encoding.{constantOf, factorAt}
-use Rattle.document.proofs.Bytes.{number-one}
-use Rattle.rebuild.proofs.add_partner.Statement.{statement}
-use Rattle.rebuild.proofs.add_partner.Tie as tie
+use Rattle.rebuild.proofs.add_times.Statement.{statement}
+use Rattle.rebuild.proofs.add_times.Tie as tie
 
 add-requires : tie.Need-add-requires
 add-requires c κs = search needs
@@ -30,22 +26,7 @@ returns c =
     let a = k .before .before .args in
     c .before .before .add .ensures
     ∙ added-once 0 (a .strip .now) (a .x .now) (λ b. omega (arith, k .shared-slice-known .given b))
-    ∙ ap (λ (v : ℕ). addedScaled v 0 (a .strip .now) (a .x .now))
-    (sym (ap number (factor-upper bytes (constantOf (a .p)) (a .c) (a .l) (t .if1 .taken)) ∙ number-one))
-
-constant-requires : tie.Need-constant-requires
-constant-requires c κs = search needs
-
--- the constant is the factor
-module _ (c : tie.After-constant) where
-  abbrev start : tie.Start
-  start = c .before .before .before .before
-
-  factor : c .constant .result ≡ number (factorAt (start .args .p) (start .args .c) (start .args .l))
-  factor =
-      let a = start .args in
-      let h : a .l < a .c = omega (arith, c .before .if1 .left, start .pre .1) in
-      c .constant .ensures ∙ sym (ap number (factor-lower bytes (constantOf (a .p)) (a .c) (a .l) h))
+    ∙ ap (λ (v : ℕ). addedScaled v 0 (a .strip .now) (a .x .now)) (sym (t .if1 .taken))
 
 add-scaled-requires : tie.Need-add-scaled-requires
 add-scaled-requires c κs = search needs
@@ -54,11 +35,7 @@ same-length-2 : tie.Need-same-length-2
 same-length-2 c = search needs
 
 returns-2 : tie.Need-returns-2
-returns-2 c =
-    let k = c .before .before .before .before .before in
-    let a = start k .args in
-    c .before .before .add-scaled .ensures
-    ∙ ap (λ (v : ℕ). addedScaled v 0 (a .strip .now) (a .x .now)) (factor k)
+returns-2 c = c .before .before .add-scaled .ensures
 
 array-borrow-prefix-u : tie.Need-array-borrow-prefix-u
 array-borrow-prefix-u c = search needs
@@ -71,14 +48,14 @@ copy-requires c κs = omega (arith, slice-aggregate-copy c)
 
 -- the strip, copied out
 module _ (c : tie.After-copy) where
-  abbrev strip : List ℕ
-  strip = start (c .before .before .before) .args .strip .now
+  abbrev start : tie.Start
+  start = c .before .before .before .before .before .before
 
   abbrev u : List ℕ
   u = c .copy .last .0
 
-  copied : u ≡ strip
-  copied = c .copy .ensures ∙ strip-all strip _ (sym (slice-aggregate-copy (c .before)))
+  copied : u ≡ start .args .strip .now
+  copied = c .copy .ensures ∙ strip-all (start .args .strip .now) _ (sym (slice-aggregate-copy (c .before)))
 
 array-borrow-prefix-u-2 : tie.Need-array-borrow-prefix-u-2
 array-borrow-prefix-u-2 c =
@@ -90,7 +67,7 @@ slice-aggregate-add-multiple c = sym (length-take-le _ _ (array-borrow-prefix-u-
 
 add-multiple-requires : tie.Need-add-multiple-requires
 add-multiple-requires c κs =
-    omega (arith, slice-aggregate-add-multiple c, start (c .before .before .before .before .before .before) .pre)
+    omega (arith, slice-aggregate-add-multiple c, start (c .before .before .before) .pre)
 
 same-length-3 : tie.Need-same-length-3
 same-length-3 c = search needs
@@ -98,19 +75,17 @@ same-length-3 c = search needs
 returns-3 : tie.Need-returns-3
 returns-3 c =
     let w = c .before .before .before .before .before .before .before in
-    let k = w .before .before .before in
+    let a = start w .args in
     c .before .before .before .add-multiple .ensures
-    ∙ ap₂ (λ (v : ℕ) (z : List ℕ). addedScaled v 0 z (start k .args .x .now)) (factor k)
-    (front (u w) _ (ap length (copied w)) ∙ copied w)
+    ∙ ap (λ (z : List ℕ). addedScaled (a .c) 0 z (a .x .now)) (front (u w) _ (ap length (copied w)) ∙ copied w)
 
-pub add-partner-spec : {M : Type 1} → statement M
-add-partner-spec =
+pub add-times-spec : {M : Type 1} → statement M
+add-times-spec =
     tie.close
     (tie.spec
     add-requires
     same-length
     returns
-    constant-requires
     add-scaled-requires
     same-length-2
     returns-2
