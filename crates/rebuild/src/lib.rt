@@ -29,7 +29,7 @@ use document::Row;
 use plan::Step;
 
 // Adds c times a strip. Half of the factors are 1, which needs no product. For another small one the strip is copied,
-// since `add_multiple` uses its strip up; from 16 on the copy costs more than it saves.
+// since `add_multiple` uses its strip up; from 16 on the copy can cost more than it saves.
 fn add_times(x: &mut [u8], strip: &[u8], c: u8)
     requires { ⌜ (length (now strip) ≡ length (now x)) × (length (now x) ≤ 512) ⌝ }
     ensures { λ _. ⌜ now (x .exit) ≡ addedScaled c 0 (now (strip .entry)) (now (x .entry)) ⌝ }

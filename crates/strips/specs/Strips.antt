@@ -1,14 +1,14 @@
 -- What is done to whole strips, as lists of bytes.
 --
--- sumOf ws src offset stride            : a byte: the sum of the weights ws times the bytes of src at offset,
---                                         offset + stride, ..
--- combinationOf ws src first stride len : the strip of len such bytes, from sources at first, first + stride, ..
+-- sumOf ws src offset stride             : a byte: the sum of the weights ws times the bytes of src at offset,
+--                                          offset + stride, ..
+-- combinationOf ws src first stride len  : the strip of len such bytes, from sources at first, first + stride, ..
 -- SourcesFit first stride count len size : what `combine` asks: count sources of len bytes lie within size bytes
--- stripAt x at s                        : the s bytes of x from `at` on
--- addedScaled c at src x                : x with c times the bytes of src added from `at` on
--- addedStrip at src x                   : x with the bytes of src added from `at` on
--- doubledStrip x                        : twice each byte of x
--- coupledStrips t upper lower s x       : x with its strips at `upper` and `lower`, of s bytes each, coupled by t
+-- stripAt x at s                         : the s bytes of x from `at` on
+-- addedScaled c at src x                 : x with c times the bytes of src added from `at` on
+-- addedStrip at src x                    : x with the bytes of src added from `at` on
+-- doubledStrip x                         : twice each byte of x
+-- coupledStrips t upper lower s x        : x with its strips at `upper` and `lower`, of s bytes each, coupled by t
 use mathlib.Core.List.{List, [], _∷_}
 use Prim.Native.Nat.{ℕ, _+_, _*_, _≤_, _<_}
 use lib.ListN.{length, getD}
