@@ -69,7 +69,8 @@ fn fold_strip(
         let from = first + (m + 1) * stride;
         let end = from + p.s;
         let c = f.0 % p.a;
-        let t = p.factor(Row(c), j % p.a);
+        let l = j % p.a;
+        let t = p.factor(Row(c), l);
         add_times(out, &src[from..end], t);
         return m + 2;
     }

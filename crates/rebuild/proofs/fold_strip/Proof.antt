@@ -118,8 +118,8 @@ add-end c = omega (arith, next-within (c .before))
 rem-c : tie.Need-rem-c
 rem-c c = search needs
 
-rem-factor : tie.Need-rem-factor
-rem-factor c = search needs
+rem-l : tie.Need-rem-l
+rem-l c = search needs
 
 factor-requires : tie.Need-factor-requires
 factor-requires c κs = search needs
@@ -199,7 +199,7 @@ fold-strip-spec =
     add-from-2
     add-end
     rem-c
-    rem-factor
+    rem-l
     factor-requires
     sub-add-times
     part-add-times-start
