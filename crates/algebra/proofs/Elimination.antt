@@ -244,14 +244,6 @@ module _ (K : Field) where
   no-kernel {m} {w} {M} {T} I k =
       k .nonzero (I .unique (λ i. 𝟘) (k .vector) (k .kills) (k .at) (k .below) ∙ dot-zeros K m (T (k .at)))
 
-  -- A square matrix has one inverse.
-  pub inverse-one : {m : ℕ} {M T T′ : Matrix K} → Inverse K m m M T → Inverse K m m M T′
-      → (i j : ℕ) → i < m → j < m → T i j ≡ T′ i j
-  inverse-one {m} {M} {T} {T′} I I′ i j h k =
-      sym (dot-pick K m j (T i) k)
-      ∙ I′ .unique (unit K j) (times K m T (unit K j)) (I .solves refl (unit K j)) i h
-      ∙ dot-pick K m j (T′ i) k
-
   -- The kernel is that of any matrix with the same entries.
   pub kernel-ext : {m w : ℕ} {M N : Matrix K} → ((i j : ℕ) → i < m → j < w → M i j ≡ N i j)
       → Kernel K m w M → Kernel K m w N

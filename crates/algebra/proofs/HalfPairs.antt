@@ -1,9 +1,9 @@
--- The partners of the half pairs solve the system system (`partners-solve`), and the other base symbols follow from
+-- The partners of the half pairs solve the system (`partners-solve`), and the other base symbols follow from
 -- them (`named-symbol`). A vector other than zero that the system takes to zero is a base array other than zero with
--- nothing stored on the named nodes (`blank`).
+-- nothing stored on the named nodes (`blank-array`).
 use mathlib.Core.Path.{_≡_, refl, sym, ap, ap₂, _∙_}
 use mathlib.Core.Logic.{_≢_}
-use Prim.Native.Nat.{ℕ, _+_, _*_, _/_, _%_, _≤_, _<_}
+use Prim.Native.Nat.{ℕ, _+_, _*_, _/_, _%_, _<_}
 use native.Mathlib.Nat.{mod-lt, div-lt-iff-lt-mul, div-add-mod'}
 use native.Mathlib.Decide.{ℕ-discrete, decLt}
 use native.Mathlib.Omega.{arith}
@@ -212,7 +212,7 @@ module _ (K : Field) (C : Code K) (s position : ℕ → ℕ)
     apart-sum : (u v w : F) → u ≡ v ⊕ w → u ⊕ w ≡ v
     apart-sum u v w e = ap (λ y. y ⊕ w) e ∙ (let t : v ⊕ w ⊕ w ≡ v = simp ring in t)
 
-    -- The partners of the half pairs solve the system system.
+    -- The partners of the half pairs solve the system.
     pub partners-solve : (a x : Array K) → ((i : ℕ) → i < A → Codeword K n point k (a i))
         → ((i q : ℕ) → i < A → q < k → x i (s q) ≡ stored K A θ a i (s q))
         → Solves K U U small (λ e. knownPartner K A k point θ s position x (o e)) (λ e. partnerOf a (o e))

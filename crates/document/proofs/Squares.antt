@@ -29,9 +29,6 @@ use Rattle.algebra.proofs.Elimination.{
   lift-reduced,
   lift-kept,
   no-kernel,
-  inverse-one,
-  kernel-ext,
-  inverse-ext,
 }
 use Rattle.square.specs.declared.Line.{Line}
 use Rattle.square.specs.declared.Pivot.{Pivot}
@@ -266,30 +263,3 @@ module _ {m w : ℕ} {s t : List Line} (S : Shaped m w s) (T : UnitShaped m t) w
           → (u : List Line) × (x ≡ whole u) × Inverse bytes m w (matrix s) (matrix u)
       go (whole u) g e = (u, refl, g)
       go (stuck r a) g e = let z : _≡_ {A = ℕ} 0 1 = cc in absurd (omega arith)
-
--- ---- two squares with one matrix
--- The verdict turns on the matrix alone.
-pub singular-same : {m w : ℕ} {s t s′ t′ : List Line} → Shaped m w s → UnitShaped m t → Shaped m w s′ → UnitShaped m t′
-    → ((i j : ℕ) → i < m → j < w → matrix s i j ≡ matrix s′ i j)
-    → singular (eliminated m w s t) ≡ singular (eliminated m w s′ t′)
-unfolding Good
-singular-same {m} {w} {s} {t} {s′} {t′} S T S′ T′ same =
-    go (eliminated m w s t) (eliminated m w s′ t′) (ended S T) (ended S′ T′)
-  where
-    go : (x y : Ended) → Good m w (matrix s) x → Good m w (matrix s′) y → singular x ≡ singular y
-    go (whole u) (whole v) g h = refl
-    go (stuck r a) (stuck q b) g h = refl
-    go (whole u) (stuck q b) g h =
-        absurd (no-kernel bytes g
-        (kernel-ext bytes (λ i j k l. sym (same i j k l)) (null-kernel m w (matrix s′) h)))
-    go (stuck r a) (whole v) g h =
-        absurd (no-kernel bytes h (kernel-ext bytes same (null-kernel m w (matrix s) g)))
-
--- So does the inverse.
-pub inverse-same : {m : ℕ} {s t s′ t′ u u′ : List Line}
-    → Shaped m m s → UnitShaped m t → Shaped m m s′ → UnitShaped m t′
-    → ((i j : ℕ) → i < m → j < m → matrix s i j ≡ matrix s′ i j)
-    → eliminated m m s t ≡ whole u → eliminated m m s′ t′ ≡ whole u′
-    → (i j : ℕ) → i < m → j < m → matrix u i j ≡ matrix u′ i j
-inverse-same S T S′ T′ same e e′ =
-    inverse-one bytes (inverse-ext bytes same (λ i j h k. refl) (regular S T e)) (regular S′ T′ e′)

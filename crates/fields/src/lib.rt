@@ -1,4 +1,4 @@
-// Fields of a tag, a length and content: written and compared.
+// Fields of a tag, a length and content, and lists of bytes: written and compared.
 ghost use mathlib.Core.Path.{_≡_};
 ghost use mathlib.Core.Bool.{cond};
 ghost use mathlib.Core.List.{[], _∷_};
@@ -42,7 +42,7 @@ pub fn put_bytes(out: &mut [u8], at: usize, src: &[u8]) -> usize
     at + i
 }
 
-// Writes a number as one byte if it is wanted, and returns the position after it.
+// Writes a number as one byte if it is wanted, and returns the position after what was written.
 pub fn put_if(out: &mut [u8], at: usize, v: usize, wanted: bool) -> usize
     requires { ⌜ (at < length (now out)) × (v < 256) ⌝ }
     ensures { λ r. ⌜ Wrote (now (out .entry)) at (cond wanted (v ∷ []) []) r (now (out .exit)) ⌝ }

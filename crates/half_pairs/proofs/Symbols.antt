@@ -2,17 +2,13 @@
 use mathlib.Core.Path.{_≡_, refl, sym, ap, ap₂, _∙_}
 use mathlib.Core.Bool.{Bool, true, false, not}
 use mathlib.Core.List.{List, []}
-use mathlib.Core.Logic.{_≢_}
-use Prim.Native.Nat.{ℕ, zero, suc, _+_, _*_, _/_, _%_, _≤_, _<_}
+use Prim.Native.Nat.{ℕ, _+_, _*_, _/_, _%_, _≤_, _<_}
 use native.Mathlib.Nat.{mul-comm, mod-lt, div-lt-iff-lt-mul}
 use native.Mathlib.Decide.{decLt}
 use native.Mathlib.Omega.{arith}
 use lib.Arith.{digits-div, digits-mod, digits-lt}
-use lib.Dec.{ltb}
 use lib.ListN.{length, getD}
-use borrow.Author.Tests.{lt-ltb, le-ltb, ltb-true}
-use Rattle.lists.specs.Listed.{rising}
-use Rattle.lists.specs.Each.{Each}
+use borrow.Author.Tests.{le-ltb, ltb-true}
 use Rattle.lists.proofs.Once.{once-each, once-has, rising-once}
 use Rattle.lists.proofs.Each.{each-at}
 use Rattle.ksets.specs.Sets.{Rising}
@@ -22,14 +18,13 @@ use Rattle.algebra.specs.Pick.{pick}
 use Rattle.algebra.specs.Polynomial.{eval}
 use Rattle.algebra.specs.RowCode.{Choice, Codeword}
 use Rattle.algebra.specs.Coupling.{Array, stored}
-use Rattle.algebra.specs.Square.{times, Solves, Kernel, Inverse, Matrix}
+use Rattle.algebra.specs.Square.{times, Kernel, Inverse, Matrix}
 use Rattle.algebra.specs.HalfPairs.{Positions, Selected, opposite, halfFactor, known, knownPartner}
 use Rattle.algebra.proofs.Field.{add-zero, zero-mul, mul-zero}
 use Rattle.algebra.proofs.RowCode.{determined}
 use Rattle.algebra.proofs.Coupling.{stored-ext}
 use Rattle.algebra.proofs.HalfPairs.{named-symbol, partners-solve, Blank, blank-array}
 use Rattle.document.specs.declared.Profile.{Profile}
-use Rattle.document.specs.declared.Place.{Place}
 use Rattle.document.specs.Profile.{Accepted}
 use Rattle.document.specs.Places.{place}
 use Rattle.document.specs.Bytes.{bytes, Byte, byte}

@@ -1,7 +1,7 @@
 -- The entries of the small system, as they are computed, and its verdict.
 use mathlib.Core.Path.{_≡_, refl, sym, ap, ap₂, subst, _∙_}
-use mathlib.Core.Bool.{Bool, true, false, not, cond, false≢true}
-use mathlib.Core.List.{List, []}
+use mathlib.Core.Bool.{Bool, true, false, cond}
+use mathlib.Core.List.{List}
 use Prim.Native.Nat.{ℕ, zero, suc, _*_, _/_, _%_, _≤_, _<_}
 use native.Mathlib.Decide.{ℕ-discrete, decLt}
 use native.Mathlib.Omega.{arith}
@@ -14,17 +14,15 @@ use Rattle.lists.proofs.Listed.{listed-length, listed-at}
 use Rattle.lists.proofs.Rising.{rising-length}
 use Rattle.ksets.specs.Sets.{Rising}
 use Rattle.gf256.specs.Field.{_⊕_}
-use Rattle.algebra.specs.Field.{Field}
-use Rattle.algebra.specs.Pick.{pick}
-use Rattle.algebra.specs.Square.{unit, Kernel, Inverse}
+use Rattle.algebra.specs.Square.{unit, Inverse}
 use Rattle.algebra.specs.HalfPairs.{weightAt, halfFactor, partnerCoefficient, system}
 use Rattle.algebra.proofs.Field.{zero-add}
 use Rattle.algebra.proofs.Elimination.{kernel-ext, inverse-ext}
 use Rattle.algebra.proofs.Pick.{pick-yes, pick-no}
 use Rattle.square.specs.declared.Line.{Line}
 use Rattle.square.specs.declared.Verdict.the-variants.{Regular, Singular}
-use Rattle.square.specs.Steps.{noLine, lineAt, entry, filled, unitSquare}
-use Rattle.square.specs.Elimination.{Ended, whole, stuck, eliminated, verdictAndLines, singular}
+use Rattle.square.specs.Steps.{noLine, lineAt, entry, filled}
+use Rattle.square.specs.Elimination.{Ended, whole, stuck, verdictAndLines, singular}
 use Rattle.square.proofs.Steps.{filled-at, filled-rest, filled-length, set-at}
 use Rattle.document.specs.declared.Profile.{Profile}
 use Rattle.document.specs.declared.Place.{Place}
@@ -35,12 +33,13 @@ use Rattle.document.specs.Reading.{ambiguous}
 use Rattle.document.proofs.Bounds.{square-bound}
 use Rattle.document.proofs.Bytes.{number-lt, byte-number, number-zero, number-one, number-add}
 use Rattle.document.proofs.SquareSteps.{matrix, Shaped, unit-square}
-use Rattle.document.proofs.Squares.{singular-kernel, not-singular, regular}
+use Rattle.document.proofs.Squares.{singular-kernel, regular}
 use Rattle.coefficients.specs.Weights.{positionIn}
 use Rattle.half_pairs.specs.HalfPairs.{
   named,
   isNamed,
   partnerAt,
+  isHalfPair,
   halfPairs,
   halfPairAt,
   coefficientIn,
@@ -67,7 +66,7 @@ module _ (p : Profile) (nodes : List ℕ) where
   abbrev U : ℕ
   U = length (halfPairs p nodes)
 
-  -- the partnerCoefficient of two strips is that to the partner of the first
+  -- at the partner of strip z it is the algebra's
   pub coefficient-is : (z y : ℕ)
       → coefficientIn p nodes (partnerAt p nodes z) y
       ≡ partnerCoefficient bytes A k byte (factorAt p) (named nodes) (positionIn nodes) z y
@@ -79,7 +78,7 @@ module _ (p : Profile) (nodes : List ℕ) where
   unfolding coefficientIn
   coefficient-row r y d = sym (ap number (pick-no (ℕ-discrete (y % A) (r .row .0)) _ _ d) ∙ number-zero)
 
-  -- an half pair of the row
+  -- a half pair of the row
   pub coefficient-part : (r : Place) (y : ℕ) → y % A ≡ r .row .0
       → isNamed k nodes (partnerAt p nodes y .node .0) ≡ false
       → coefficientIn p nodes r y
@@ -134,7 +133,8 @@ module _ (p : Profile) (nodes : List ℕ) where
 
           entry-is : f < U → number (bytes .add (unit bytes e f) rel) ≡ wanted f
           entry-is t =
-              ap (λ (x : Byte). number (bytes .add (unit bytes e f) x)) (coefficient-is (halfPairAt p nodes e) (halfPairAt p nodes f))
+              ap (λ (x : Byte). number (bytes .add (unit bytes e f) x))
+              (coefficient-is (halfPairAt p nodes e) (halfPairAt p nodes f))
               ∙ sym (ap (λ (b : Bool). cond b (number (systemAt p nodes e f)) 0) (lt-ltb f U t))
 
           go : Dec (f ≡ e) → Dec (f < U) → cond (eqb f e) (getD c e 0 ⊕ 1) (getD c f 0) ≡ wanted f
@@ -205,7 +205,8 @@ module _ (p : Profile) (nodes : List ℕ) where
           subst Small
           (sym (ap (λ (l : Line). l .c)
           (filled-rest made (replicate 80 blank) U e noLine (omega arith))))
-          (repeated (λ l. Small (l .c)) 80 e blank noLine (repeated (λ v. v < 256) 80 f 0 0 (omega arith) (omega arith)) (omega arith))
+          (repeated (λ l. Small (l .c)) 80 e blank noLine (repeated (λ v. v < 256) 80 f 0 0 (omega arith) (omega arith))
+          (omega arith))
 
   pub system-shaped : U ≤ 80 → Shaped U U (systemSquare p nodes)
   unfolding systemSquare
@@ -224,7 +225,7 @@ module _ (p : Profile) (nodes : List ℕ) where
   module _ (acc : Accepted p) (rises : Rising (p .n) k nodes) where
     pub few-halves : U ≤ 80
     unfolding halfPairs
-    few-halves = omega (arith, rising-length (λ z. not (isNamed k nodes (partnerAt p nodes z .node .0))) (k * A), square-bound p acc)
+    few-halves = omega (arith, rising-length (isHalfPair p nodes) (k * A), square-bound p acc)
 
     pub stuck-ambiguous : (r : ℕ) → verdictAndLines (systemEnd p nodes) .verdict ≡ Singular r → ambiguous p nodes ≡ true
     stuck-ambiguous r e =

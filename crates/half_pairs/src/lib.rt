@@ -13,7 +13,8 @@ ghost use Rattle.document.specs.Bytes.{number};
 ghost use Rattle.document.specs.Reading.{joinedPlace};
 ghost use Rattle.coefficients.specs.Weights.{denominatorsOf};
 ghost use Rattle.half_pairs.specs.HalfPairs.{positionTable, isNamed, isHalfPair, partnerAt, halfPairs};
-ghost use Rattle.half_pairs.specs.HalfPairs.{weightRow, nodeWeights, weightTable, coefficientIn, systemLine, systemSquare};
+ghost use Rattle.half_pairs.specs.HalfPairs.{weightRow, nodeWeights, weightTable};
+ghost use Rattle.half_pairs.specs.HalfPairs.{coefficientIn, systemLine, systemSquare};
 use document::Node;
 use document::Place;
 use document::Profile;
@@ -68,7 +69,7 @@ fn is_half_pair(p: Profile, nodes: &[u8], positions: &[u8], z: usize) -> bool
     !(q < p.k)
 }
 
-// Writes the numbers of the half pairs, and returns how many there are: of all strips, so many as 80, any may be one.
+// Writes the numbers of the half pairs, and returns how many there are. `out` has room for all strips, at most 80.
 pub fn list_half_pairs(out: &mut [u8], p: Profile, nodes: &[u8], positions: &[u8]) -> usize
     requires { ⌜ Accepted p × Rising (p .n) (p .k) (now nodes) × (length (now out) ≡ 80) ⌝ }
     requires { ⌜ now positions ≡ positionTable (now nodes) ⌝ }
@@ -162,16 +163,16 @@ fn partner_coefficient(p: Profile, nodes: &[u8], table: &[u8], r: Place, y: usiz
 
 // Line e of the system: the coefficient of each half pair's partner in the equation for that of the e-th half pair, and 1
 // more for its own.
-fn system_line(p: Profile, nodes: &[u8], table: &[u8], strips: &[u8], e: usize) -> [u8; 80]
+fn system_line(p: Profile, nodes: &[u8], table: &[u8], halves: &[u8], e: usize) -> [u8; 80]
     requires { ⌜ Accepted p × Rising (p .n) (p .k) (now nodes) × (now table ≡ weightTable p (now nodes)) ⌝ }
-    requires { ⌜ (now strips ≡ halfPairs p (now nodes)) × (e < length (now strips)) ⌝ }
+    requires { ⌜ (now halves ≡ halfPairs p (now nodes)) × (e < length (now halves)) ⌝ }
     ensures { λ r. ⌜ r ≡ systemLine p (now (nodes .entry)) e ⌝ }
 {
-    let r = joined_partner(p, nodes, strips[e] as usize);
+    let r = joined_partner(p, nodes, halves[e] as usize);
     let mut c = [0u8; 80];
     let mut f: usize = 0;
-    while f < strips.len() {
-        let v = partner_coefficient(p, nodes, table, r, strips[f] as usize);
+    while f < halves.len() {
+        let v = partner_coefficient(p, nodes, table, r, halves[f] as usize);
         c[f] = v;
         f += 1;
     }
@@ -180,15 +181,15 @@ fn system_line(p: Profile, nodes: &[u8], table: &[u8], strips: &[u8], e: usize) 
 }
 
 // The system: a line for each half pair. Lines past them hold zeros.
-pub fn system_square(p: Profile, nodes: &[u8], table: &[u8], strips: &[u8]) -> [Line; 80]
+pub fn system_square(p: Profile, nodes: &[u8], table: &[u8], halves: &[u8]) -> [Line; 80]
     requires { ⌜ Accepted p × Rising (p .n) (p .k) (now nodes) × (now table ≡ weightTable p (now nodes)) ⌝ }
-    requires { ⌜ now strips ≡ halfPairs p (now nodes) ⌝ }
+    requires { ⌜ now halves ≡ halfPairs p (now nodes) ⌝ }
     ensures { λ r. ⌜ r ≡ systemSquare p (now (nodes .entry)) ⌝ }
 {
     let mut s = [Line { c: [0u8; 80] }; 80];
     let mut e: usize = 0;
-    while e < strips.len() {
-        let c = system_line(p, nodes, table, strips, e);
+    while e < halves.len() {
+        let c = system_line(p, nodes, table, halves, e);
         s[e] = Line { c: c };
         e += 1;
     }

@@ -1,7 +1,6 @@
 -- The data that the steps of reading back come to are those of document 01: at each byte offset the strips hold first what
 -- is known, then the base symbols of the named nodes, and the columns made of them the data symbols.
 use mathlib.Core.Path.{_≡_, refl, sym, ap, ap₂, _∙_}
-use mathlib.Core.Logic.{_≢_}
 use mathlib.Core.Bool.{Bool, true, false, cond}
 use mathlib.Core.List.{List}
 use Prim.Native.Nat.{ℕ, zero, suc, _+_, _-_, _*_, _/_, _%_, _≤_, _<_}
@@ -11,8 +10,7 @@ use native.Mathlib.Omega.{arith}
 use lib.Arith.{digits-div, digits-mod, digits-lt}
 use lib.ListN.{length, getD, take, length-take, List·getD-eq-default}
 use lib.Seq.{getD-take}
-use borrow.Author.Tests.{lt-ltb, le-ltb, ltb-true, ltb-false}
-use Rattle.lists.specs.Listed.{listed}
+use borrow.Author.Tests.{ltb-true, ltb-false}
 use Rattle.lists.specs.Each.{Distinct}
 use Rattle.lists.proofs.Listed.{listed-length, listed-at}
 use Rattle.lists.proofs.Patched.{patched-length, patched-in, patched-out}
@@ -24,7 +22,7 @@ use Rattle.gf256.specs.Field as G
 use Rattle.algebra.specs.Field.{Field}
 use Rattle.algebra.specs.Pick.{pick}
 use Rattle.algebra.specs.Sum.{sum}
-use Rattle.algebra.specs.Square.{times, dot, Inverse}
+use Rattle.algebra.specs.Square.{dot, Inverse}
 use Rattle.algebra.specs.HalfPairs.{opposite, weightAt, knownPartner, halfFactor}
 use Rattle.algebra.proofs.Field.{add-zero, zero-mul, mul-zero, mul-comm}
 use Rattle.algebra.proofs.Pick.{pick-yes, pick-no}
@@ -37,13 +35,13 @@ use Rattle.document.specs.declared.Profile.{Profile}
 use Rattle.document.specs.Profile.{Accepted}
 use Rattle.document.specs.Places.{place}
 use Rattle.document.specs.Bytes.{bytes, Byte, byte, number}
-use Rattle.document.specs.Encoding.{byteAt, baseAt, factorAt, encoded, Data}
-use Rattle.document.specs.Reading.{joinedColumns, ambiguous, dataFrom}
-use Rattle.document.proofs.Bounds.{A>0, room}
+use Rattle.document.specs.Encoding.{byteAt, baseAt, factorAt, encoded}
+use Rattle.document.specs.Reading.{joinedColumns, dataFrom}
+use Rattle.document.proofs.Bounds.{A>0}
 use Rattle.document.proofs.Bytes.{byte-number, byte-zero, number-add, number-mul}
 use Rattle.document.proofs.Arrays.{laid-only, laid-bytes}
 use Rattle.document.proofs.Rows.{row-word, row-data}
-use Rattle.document.proofs.Columns.{array, nodes-distinct}
+use Rattle.document.proofs.Columns.{nodes-distinct}
 use Rattle.document.proofs.SquareSteps.{matrix}
 use Rattle.document.proofs.Reading.{read-data, read-columns}
 use Rattle.algebra.specs.Weight.{weight}
@@ -63,10 +61,8 @@ use Rattle.half_pairs.proofs.Named.{named-choice, named-positions}
 use Rattle.half_pairs.proofs.Table.{row-other, row-length}
 use Rattle.half_pairs.proofs.Symbols.{
   U,
-  given,
   knownOf,
   knownPartnerOf,
-  factorOf,
   partnerSymbol,
   half-each,
   half-has,
@@ -362,7 +358,8 @@ module _ (p : Profile) (acc : Accepted p) (nodes : List ℕ) (rises : Rising (p 
           ∙ row-sum w (λ b c q. symbol b c (named nodes q)) symbol-byte j i b u l t
           ∙ ap number (sym (whole-row (omega (arith, acc .shape .some-parity))))
         where
-          whole-row : j < n → symbol b i j ≡ sum bytes k (λ q. symbol b i (named nodes q) ⊗ weightAt bytes k byte (named nodes) q j)
+          whole-row : j < n
+              → symbol b i j ≡ sum bytes k (λ q. symbol b i (named nodes q) ⊗ weightAt bytes k byte (named nodes) q j)
           whole-row =
               recover bytes n byte (nodes-distinct p acc) k (named nodes) (named-choice rises) (row-word p d b i) j
 

@@ -7,7 +7,8 @@ ghost use Rattle.ksets.specs.Sets.{Rising};
 ghost use Rattle.document.specs.Profile.{Accepted};
 ghost use Rattle.document.specs.Reading.{listAccepted, readOf};
 ghost use Rattle.half_pairs.specs.HalfPairs.{positionTable, halfPairs, weightTable};
-ghost use Rattle.reading.specs.Steps.{multipleOf, uncoupledStrip, knownStrip, knownStrips, knownPartnerStrip, knownPartnerStrips};
+ghost use Rattle.reading.specs.Steps.{multipleOf, uncoupledStrip, knownStrip, knownStrips};
+ghost use Rattle.reading.specs.Steps.{knownPartnerStrip, knownPartnerStrips};
 ghost use Rattle.reading.specs.Steps.{completedStrip, completed, baseColumn, baseColumns, dataBy, readingAnswer};
 use document::Answer;
 use document::Checked;
@@ -136,18 +137,18 @@ fn known_partner(out: &mut [u8], p: Profile, nodes: &[u8], table: &[u8], y: &[u8
 }
 
 // The same for each half pair: the right-hand sides of their system.
-fn known_partners(out: &mut [u8], p: Profile, nodes: &[u8], table: &[u8], strips: &[u8], y: &[u8])
+fn known_partners(out: &mut [u8], p: Profile, nodes: &[u8], table: &[u8], halves: &[u8], y: &[u8])
     requires { ⌜ Accepted p × Rising (p .n) (p .k) (now nodes) × (now table ≡ weightTable p (now nodes)) ⌝ }
-    requires { ⌜ (now strips ≡ halfPairs p (now nodes)) × (length (now out) ≡ length (now strips) * p .s)
+    requires { ⌜ (now halves ≡ halfPairs p (now nodes)) × (length (now out) ≡ length (now halves) * p .s)
         × (length (now y) ≡ p .k * p .a * p .s) ⌝ }
     ensures { λ _. ⌜ now (out .exit) ≡ knownPartnerStrips p (now (nodes .entry)) (now (y .entry)) ⌝ }
 {
     let s = p.s;
     let mut e: usize = 0;
-    while e < strips.len() {
+    while e < halves.len() {
         let from = e * s;
         let end = from + s;
-        known_partner(&mut out[from..end], p, nodes, table, y, strips[e] as usize);
+        known_partner(&mut out[from..end], p, nodes, table, y, halves[e] as usize);
         e += 1;
     }
 }
@@ -158,20 +159,20 @@ fn complete_strip(
     y: &mut [u8],
     p: Profile,
     nodes: &[u8],
-    strips: &[u8],
+    halves: &[u8],
     r: &[u8],
     line: Line,
     e: usize,
 )
-    requires { ⌜ Accepted p × Rising (p .n) (p .k) (now nodes) × (now strips ≡ halfPairs p (now nodes)) ⌝ }
-    requires { ⌜ (e < length (now strips)) × (length (now y) ≡ p .k * p .a * p .s)
-        × (length (now r) ≡ length (now strips) * p .s) ⌝ }
+    requires { ⌜ Accepted p × Rising (p .n) (p .k) (now nodes) × (now halves ≡ halfPairs p (now nodes)) ⌝ }
+    requires { ⌜ (e < length (now halves)) × (length (now y) ≡ p .k * p .a * p .s)
+        × (length (now r) ≡ length (now halves) * p .s) ⌝ }
     ensures { λ _. ⌜ now (y .exit)
         ≡ completedStrip p (now (nodes .entry)) (line .c) (now (r .entry)) e (now (y .entry)) ⌝ }
 {
     let s = p.s;
-    let count = strips.len();
-    let z = strips[e] as usize;
+    let count = halves.len();
+    let z = halves[e] as usize;
     let q = half_pairs::joined_place(p, nodes, z);
     let row = q.row;
     let f = p.factor(row, q.node.0 % p.a);
@@ -182,16 +183,16 @@ fn complete_strip(
 }
 
 // Completes all of them.
-fn complete(y: &mut [u8], p: Profile, nodes: &[u8], strips: &[u8], r: &[u8], lines: [Line; 80])
-    requires { ⌜ Accepted p × Rising (p .n) (p .k) (now nodes) × (now strips ≡ halfPairs p (now nodes)) ⌝ }
-    requires { ⌜ (length (now y) ≡ p .k * p .a * p .s) × (length (now r) ≡ length (now strips) * p .s) ⌝ }
+fn complete(y: &mut [u8], p: Profile, nodes: &[u8], halves: &[u8], r: &[u8], lines: [Line; 80])
+    requires { ⌜ Accepted p × Rising (p .n) (p .k) (now nodes) × (now halves ≡ halfPairs p (now nodes)) ⌝ }
+    requires { ⌜ (length (now y) ≡ p .k * p .a * p .s) × (length (now r) ≡ length (now halves) * p .s) ⌝ }
     ensures { λ _. ⌜ now (y .exit)
-        ≡ completed p (now (nodes .entry)) lines (now (r .entry)) (length (now (strips .entry))) (now (y .entry)) ⌝ }
+        ≡ completed p (now (nodes .entry)) lines (now (r .entry)) (length (now (halves .entry))) (now (y .entry)) ⌝ }
 {
     let mut e: usize = 0;
-    while e < strips.len() {
+    while e < halves.len() {
         let line = lines[e];
-        complete_strip(y, p, nodes, strips, r, line, e);
+        complete_strip(y, p, nodes, halves, r, line, e);
         e += 1;
     }
 }
@@ -244,27 +245,27 @@ fn put_columns(out: &mut [u8], p: Profile, nodes: &[u8], positions: &[u8], table
 
 // The data, by the lines of the inverse of the system. The strips of the named nodes stand in y; the right-hand sides stand
 // in the output until the data are written over them.
-fn put_by(
+fn put_data_in(
     out: &mut [u8],
     y: &mut [u8],
     p: Profile,
     nodes: &[u8],
     positions: &[u8],
     table: &[u8],
-    strips: &[u8],
+    halves: &[u8],
     columns: &[u8],
     lines: [Line; 80],
 )
     requires { ⌜ Accepted p × Rising (p .n) (p .k) (now nodes) × (now positions ≡ positionTable (now nodes)) ⌝ }
-    requires { ⌜ (now table ≡ weightTable p (now nodes)) × (now strips ≡ halfPairs p (now nodes)) ⌝ }
+    requires { ⌜ (now table ≡ weightTable p (now nodes)) × (now halves ≡ halfPairs p (now nodes)) ⌝ }
     requires { ⌜ (length (now columns) ≡ p .k * p .a * p .s) × (length (now out) ≡ p .k * p .a * p .s)
         × (length (now y) ≡ p .k * p .a * p .s) ⌝ }
     ensures { λ _. ⌜ now (out .exit) ≡ dataBy p (now (nodes .entry)) lines (now (columns .entry)) ⌝ }
 {
-    let partners = strips.len() * p.s;
+    let partners = halves.len() * p.s;
     known_strips(y, p, nodes, positions, columns);
-    known_partners(&mut out[..partners], p, nodes, table, strips, y);
-    complete(y, p, nodes, strips, &out[..partners], lines);
+    known_partners(&mut out[..partners], p, nodes, table, halves, y);
+    complete(y, p, nodes, halves, &out[..partners], lines);
     put_columns(out, p, nodes, positions, table, y);
 }
 
@@ -275,25 +276,25 @@ fn put_data(
     nodes: &[u8],
     positions: &[u8],
     table: &[u8],
-    strips: &[u8],
+    halves: &[u8],
     columns: &[u8],
     lines: [Line; 80],
 )
     requires { ⌜ Accepted p × Rising (p .n) (p .k) (now nodes) × (now positions ≡ positionTable (now nodes)) ⌝ }
-    requires { ⌜ (now table ≡ weightTable p (now nodes)) × (now strips ≡ halfPairs p (now nodes)) ⌝ }
+    requires { ⌜ (now table ≡ weightTable p (now nodes)) × (now halves ≡ halfPairs p (now nodes)) ⌝ }
     requires { ⌜ (length (now columns) ≡ p .k * p .a * p .s) × (length (now out) ≡ p .k * p .a * p .s) ⌝ }
     ensures { λ _. ⌜ now (out .exit) ≡ dataBy p (now (nodes .entry)) lines (now (columns .entry)) ⌝ }
 {
     let size = out.len();
-    let mut y = [0u8; 40960];
-    put_by(
+    let mut y = [0u8; 80 * Profile::MAX_STRIP];
+    put_data_in(
         out,
         &mut y[..size],
         p,
         nodes,
         positions,
         table,
-        strips,
+        halves,
         columns,
         lines,
     );
@@ -307,10 +308,10 @@ fn read_from(p: Profile, nodes: &[u8], columns: &[u8], output: &mut [u8]) -> Ans
         ≡ readingAnswer p (now (nodes .entry)) (now (columns .entry)) (now (output .entry)) ⌝ }
 {
     let positions = half_pairs::positions(nodes);
-    let mut strips = [0u8; 80];
-    let count = half_pairs::list_half_pairs(&mut strips, p, nodes, &positions);
+    let mut halves = [0u8; 80];
+    let count = half_pairs::list_half_pairs(&mut halves, p, nodes, &positions);
     let table = half_pairs::weight_table(p, nodes, &positions);
-    let s = half_pairs::system_square(p, nodes, &table, &strips[..count]);
+    let s = half_pairs::system_square(p, nodes, &table, &halves[..count]);
     let e = square::invert(s, count, count);
     let verdict = e.verdict;
     match verdict {
@@ -323,7 +324,7 @@ fn read_from(p: Profile, nodes: &[u8], columns: &[u8], output: &mut [u8]) -> Ans
                 nodes,
                 &positions,
                 &table,
-                &strips[..count],
+                &halves[..count],
                 columns,
                 lines,
             );

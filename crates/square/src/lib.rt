@@ -37,9 +37,9 @@ struct Left {
     entries: [u8; 80],
 }
 
-// What an elimination comes to: with `Regular` the first lines are those of the inverse, if rows and columns are equally many;
-// with `Singular` those of the square as far as it is reduced, from which a vector is read off that the square takes to
-// zero.
+// What an elimination comes to: with `Regular` the first lines are those of the inverse, if rows and columns are equally
+// many; with `Singular` those of the square as far as it is reduced, from which a vector is read off that the square takes
+// to zero.
 pub struct Eliminated {
     pub verdict: Verdict,
     pub lines: [Line; 80],

@@ -5,7 +5,8 @@ ghost use Prim.Native.Nat.{ℕ, _+_, _*_, _%_, _^_, _<_, _≤_};
 ghost use lib.ListN.{length, take, drop, replicate};
 ghost use Rattle.gf256.specs.Field.{_⊗_, double};
 ghost use Rattle.lists.specs.Listed.{listed};
-ghost use Rattle.strips.specs.Strips.{combinationOf, SourcesFit, stripAt, addedScaled, addedStrip, doubledStrip, coupledStrips};
+ghost use Rattle.strips.specs.Strips.{combinationOf, SourcesFit, stripAt, coupledStrips};
+ghost use Rattle.strips.specs.Strips.{addedScaled, addedStrip, doubledStrip};
 ghost use Rattle.strips.specs.Planes.{bitsAt, planeOf, offsetsOf, addedWith, doubledWith};
 ghost use Rattle.strips.specs.Planes.{partOf, addedFour, doubledFour, Alike, Lent};
 

@@ -20,10 +20,10 @@ fn fails(p: Profile, set: &[u8]) -> bool
     ensures { λ r. ⌜ r ≡ ambiguous p (now (set .entry)) ⌝ }
 {
     let positions = half_pairs::positions(set);
-    let mut strips = [0u8; 80];
-    let count = half_pairs::list_half_pairs(&mut strips, p, set, &positions);
+    let mut halves = [0u8; 80];
+    let count = half_pairs::list_half_pairs(&mut halves, p, set, &positions);
     let table = half_pairs::weight_table(p, set, &positions);
-    let s = half_pairs::system_square(p, set, &table, &strips[..count]);
+    let s = half_pairs::system_square(p, set, &table, &halves[..count]);
     let verdict = square::judge(s, count, count);
     match verdict {
         Verdict::Singular(_) => true,

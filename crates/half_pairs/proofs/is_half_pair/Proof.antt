@@ -1,12 +1,11 @@
 -- `half_pairs::is_half_pair` meets its contract: the table has the position of the partner's node.
-use mathlib.Core.Path.{_≡_, sym, ap, subst, _∙_}
+use mathlib.Core.Path.{_≡_, ap, _∙_}
 use mathlib.Core.Bool.{not}
 use mathlib.Core.List.{List}
 use Prim.Native.Nat.{ℕ, _<_}
 use native.Mathlib.Omega.{arith}
 use lib.Dec.{ltb}
 use lib.ListN.{length, getD}
-use borrow.Author.Needs.{needs}
 use Rattle.document.specs.declared.Place.{Place}
 use Rattle.document.proofs.Bounds.{partner-within}
 use Rattle.document.proofs.Reading.{joined-within}

@@ -1,5 +1,5 @@
 -- `half_pairs::joined_partner` meets its contract.
-use mathlib.Core.Path.{_≡_, sym, ap, subst, _∙_}
+use mathlib.Core.Path.{sym, ap, subst, _∙_}
 use Rattle.ksets.proofs.Ranked.{risen-length}
 use Rattle.document.specs.Places.{partnerOf, Within}
 use Rattle.document.proofs.Reading.{joined-within}

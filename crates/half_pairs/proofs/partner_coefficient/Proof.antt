@@ -57,7 +57,9 @@ module _ (s : tie.Start) where
       omega (arith, digits-lt (s .pre .1 .0 .0 .node) column, table-bound (s .args .p) (s .pre .0 .0))
 
   weight : getD (s .args .table .now) (s .args .r .node .0 * s .args .p .k + s .args .y / s .args .p .a) 0
-      ≡ number (weightAt bytes (s .args .p .k) byte (named (s .args .nodes .now)) (s .args .y / s .args .p .a) (s .args .r .node .0))
+      ≡ number
+      (weightAt bytes (s .args .p .k) byte (named (s .args .nodes .now)) (s .args .y / s .args .p .a)
+      (s .args .r .node .0))
   weight =
       ap (λ (t : List ℕ). getD t (s .args .r .node .0 * s .args .p .k + s .args .y / s .args .p .a) 0) (s .pre .1 .1 .0)
       ∙ weight-entry (s .args .p) (s .pre .0 .0) (s .args .nodes .now) (s .pre .0 .1) (s .args .r .node .0)
@@ -100,7 +102,9 @@ returns-2 c =
     (f .factor .ensures ∙ ap₂ (λ (i l : ℕ). number (factorAt p i (l % p .a))) (row j) (node j))
     (weight s)
     ∙ sym (number-mul _ _)
-    ∙ ap number (sym (coefficient-part p (s .args .nodes .now) (s .args .r) (s .args .y) (sym (row j) ∙ t .if1 .left) (s .pre .1 .1 .1)))
+    ∙ ap number
+    (sym (coefficient-part p (s .args .nodes .now) (s .args .r) (s .args .y) (sym (row j) ∙ t .if1 .left)
+    (s .pre .1 .1 .1)))
 
 pub partner-coefficient-spec : {M : Type 1} → statement M
 partner-coefficient-spec =

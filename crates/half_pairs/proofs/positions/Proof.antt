@@ -1,10 +1,10 @@
 -- `half_pairs::positions` meets its contract. The invariant: the positions of the nodes before j are written.
 use mathlib.Core.Path.{_≡_, ap, ap₂, _∙_}
 use mathlib.Core.List.{List}
-use Prim.Native.Nat.{ℕ, _-_, _≤_, _<_}
+use Prim.Native.Nat.{ℕ, _-_, _≤_}
 use native.Mathlib.Omega.{arith}
 use borrow.Author.Needs.{needs}
-use lib.ListN.{length, set, replicate, length-replicate}
+use lib.ListN.{set, replicate, length-replicate}
 use Rattle.square.specs.Steps.{filled}
 use Rattle.square.proofs.Steps.{filled-none, filled-next, filled-all}
 use Rattle.coefficients.specs.Weights.{positionIn}

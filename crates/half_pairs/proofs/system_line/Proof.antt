@@ -1,10 +1,9 @@
 -- `half_pairs::system_line` meets its contract. The invariant: the first f entries are written.
-use mathlib.Core.Path.{_≡_, refl, sym, ap, ap₂, subst, _∙_}
+use mathlib.Core.Path.{_≡_, sym, ap, ap₂, subst, _∙_}
 use mathlib.Core.Bool.{false}
 use mathlib.Core.List.{List}
 use Prim.Native.Nat.{ℕ, _-_, _*_, _≤_, _<_}
 use native.Mathlib.Omega.{arith}
-use borrow.Author.Needs.{needs}
 use lib.ListN.{length, getD, set, replicate}
 use Rattle.gf256.specs.Field.{_⊕_}
 use Rattle.square.specs.Steps.{filled}
@@ -22,11 +21,11 @@ use Rattle.half_pairs.proofs.system_line.Statement.{statement}
 use Rattle.half_pairs.proofs.system_line.Tie as tie
 
 abbrev Inv-loop : tie.InvT-loop
-Inv-loop p nodes table strips e r c₀ f₀ c f =
-    (f ≤ length strips) × (c ≡ filled (coefficientEntry p nodes e) (replicate 80 0) f)
+Inv-loop p nodes table halves e r c₀ f₀ c f =
+    (f ≤ length halves) × (c ≡ filled (coefficientEntry p nodes e) (replicate 80 0) f)
 
 abbrev μ-loop : tie.MeasureT-loop
-μ-loop p nodes table strips e r c₀ f₀ c f = length strips - f
+μ-loop p nodes table halves e r c₀ f₀ c f = length halves - f
 
 module _ (s : tie.Start Inv-loop μ-loop) where
   abbrev p : Profile
@@ -35,14 +34,14 @@ module _ (s : tie.Start Inv-loop μ-loop) where
   abbrev nodes : List ℕ
   nodes = s .args .nodes .now
 
-  few : length (s .args .strips .now) ≤ 80
+  few : length (s .args .halves .now) ≤ 80
   few = rw (s .pre .1 .0) (few-halves p nodes (s .pre .0 .0) (s .pre .0 .1))
 
   -- an entry of the list of strips
-  strip : (e : ℕ) → getD (s .args .strips .now) e 0 ≡ halfPairAt p nodes e
+  strip : (e : ℕ) → getD (s .args .halves .now) e 0 ≡ halfPairAt p nodes e
   strip e = ap (λ (l : List ℕ). getD l e 0) (s .pre .1 .0)
 
-  module _ (e : ℕ) (h : e < length (s .args .strips .now)) where
+  module _ (e : ℕ) (h : e < length (s .args .halves .now)) where
     below : e < length (halfPairs p nodes)
     below = rw (← s .pre .1 .0) h
 

@@ -1,7 +1,7 @@
 -- `half_pairs::system_square` meets its contract. The invariant: the lines before e are written.
-use mathlib.Core.Path.{_≡_, sym, ap, ap₂, _∙_}
+use mathlib.Core.Path.{_≡_, ap, ap₂, _∙_}
 use mathlib.Core.List.{List}
-use Prim.Native.Nat.{ℕ, _-_, _≤_, _<_}
+use Prim.Native.Nat.{ℕ, _-_, _≤_}
 use native.Mathlib.Omega.{arith}
 use lib.ListN.{length, set, replicate}
 use Rattle.square.specs.declared.Line.{Line}
@@ -20,12 +20,12 @@ abbrev blank : List Line
 blank = replicate 80 (record { c = replicate 80 0 })
 
 abbrev Inv-loop : tie.InvT-loop
-Inv-loop p nodes table strips s₀ e₀ s e = (e ≤ length strips) × (s ≡ filled (lineOf p nodes) blank e)
+Inv-loop p nodes table halves s₀ e₀ s e = (e ≤ length halves) × (s ≡ filled (lineOf p nodes) blank e)
 
 abbrev μ-loop : tie.MeasureT-loop
-μ-loop p nodes table strips s₀ e₀ s e = length strips - e
+μ-loop p nodes table halves s₀ e₀ s e = length halves - e
 
-few : (s : tie.Start Inv-loop μ-loop) → length (s .args .strips .now) ≤ 80
+few : (s : tie.Start Inv-loop μ-loop) → length (s .args .halves .now) ≤ 80
 few s = rw (s .pre .1) (few-halves (s .args .p) (s .args .nodes .now) (s .pre .0 .0) (s .pre .0 .1))
 
 loop-holds : tie.Need-loop-holds Inv-loop μ-loop

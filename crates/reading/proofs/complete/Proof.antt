@@ -12,11 +12,11 @@ use Rattle.reading.proofs.complete.Statement.{statement}
 use Rattle.reading.proofs.complete.Tie as tie
 
 abbrev Inv-loop : tie.InvT-loop
-Inv-loop y₀ p nodes strips r lines e₀ y e =
-    (e ≤ length strips) × (length y ≡ length y₀) × (y ≡ completed p nodes lines r e y₀)
+Inv-loop y₀ p nodes halves r lines e₀ y e =
+    (e ≤ length halves) × (length y ≡ length y₀) × (y ≡ completed p nodes lines r e y₀)
 
 abbrev μ-loop : tie.MeasureT-loop
-μ-loop y₀ p nodes strips r lines e₀ y e = length strips - e
+μ-loop y₀ p nodes halves r lines e₀ y e = length halves - e
 
 -- the checker names the lines `t6`
 loop-holds : tie.Need-loop-holds Inv-loop μ-loop
@@ -29,7 +29,7 @@ module _ (c : tie.In-loop Inv-loop μ-loop) where
   abbrev start : tie.Start Inv-loop μ-loop
   start = c .before .before .before .before .before .before
 
-  few : length (start .args .strips .now) ≤ 80
+  few : length (start .args .halves .now) ≤ 80
   few =
       omega (
         arith,
@@ -77,7 +77,7 @@ returns : tie.Need-returns Inv-loop μ-loop
 returns c =
     let l = c .before .loop in
     let a = c .before .before .before .before .before .before .args in
-    let done : l .e ≡ length (a .strips .now) = omega (arith, c .loop-test .left, l .inv .0) in
+    let done : l .e ≡ length (a .halves .now) = omega (arith, c .loop-test .left, l .inv .0) in
     l .inv .2 ∙ ap (λ (e : ℕ). completed (a .p) (a .nodes .now) (a .t6) (a .r .now) e (a .y .now)) done
 
 pub complete-spec : {M : Type 1} → statement M

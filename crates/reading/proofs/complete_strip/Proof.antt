@@ -29,12 +29,12 @@ module _ (s : tie.Start) where
   nodes = s .args .nodes .now
 
   abbrev z : ℕ
-  z = getD (s .args .strips .now) (s .args .e) 0
+  z = getD (s .args .halves .now) (s .args .e) 0
 
-  size : length (s .args .strips .now) ≡ length (halfPairs p nodes)
+  size : length (s .args .halves .now) ≡ length (halfPairs p nodes)
   size = ap length (s .pre .0 .2)
 
-  few : length (s .args .strips .now) ≤ 80
+  few : length (s .args .halves .now) ≤ 80
   few = omega (arith, size, few-halves p nodes (s .pre .0 .0) (s .pre .0 .1))
 
   -- a line is an array of 80
@@ -119,7 +119,7 @@ combine-requires c κs =
       few = omega (arith, count, few s);
       short = omega (arith, lent, s .pre .0 .0 .short);
       reach = λ q h.
-          let r = room q (length (s .args .strips .now)) (p s .s) (omega (arith, count)) in
+          let r = room q (length (s .args .halves .now)) (p s .s) (omega (arith, count)) in
           omega (arith, lent, r, s .pre .1 .2);
     }
 

@@ -21,11 +21,11 @@ abbrev stripOf : Profile → List ℕ → List ℕ → ℕ → List ℕ
 stripOf p nodes y e = knownPartnerStrip p nodes y (halfPairAt p nodes e)
 
 abbrev Inv-loop : tie.InvT-loop
-Inv-loop out₀ p nodes table strips y s e₀ out e =
-    (e ≤ length strips) × (length out ≡ length strips * s) × (take (e * s) out ≡ parts s (stripOf p nodes y) e)
+Inv-loop out₀ p nodes table halves y s e₀ out e =
+    (e ≤ length halves) × (length out ≡ length halves * s) × (take (e * s) out ≡ parts s (stripOf p nodes y) e)
 
 abbrev μ-loop : tie.MeasureT-loop
-μ-loop out₀ p nodes table strips y s e₀ out e = length strips - e
+μ-loop out₀ p nodes table halves y s e₀ out e = length halves - e
 
 loop-holds : tie.Need-loop-holds Inv-loop μ-loop
 loop-holds c =
@@ -50,21 +50,21 @@ module _ (c : tie.In-loop Inv-loop μ-loop) where
   abbrev e : ℕ
   e = c .before .loop .e
 
-  size : length (start .args .strips .now) ≡ length (halfPairs p nodes)
+  size : length (start .args .halves .now) ≡ length (halfPairs p nodes)
   size = ap length (start .pre .1 .0)
 
-  few : length (start .args .strips .now) ≤ 80
+  few : length (start .args .halves .now) ≤ 80
   few = omega (arith, size, few-halves p nodes (start .pre .0 .0) (start .pre .0 .1))
 
   -- the entry of the list of strips
-  strip : getD (start .args .strips .now) e 0 ≡ halfPairAt p nodes e
+  strip : getD (start .args .halves .now) e 0 ≡ halfPairAt p nodes e
   strip = ap (λ (l : List ℕ). getD l e 0) (start .pre .1 .0)
 
   below : halfPairAt p nodes e < p .k * p .a
   below = half-below p (start .pre .0 .0) nodes (start .pre .0 .1) e (omega (arith, size, c .loop-test .taken))
 
-  fits : e * w + w ≤ length (start .args .strips .now) * w
-  fits = room e (length (start .args .strips .now)) w (c .loop-test .taken)
+  fits : e * w + w ≤ length (start .args .halves .now) * w
+  fits = room e (length (start .args .halves .now)) w (c .loop-test .taken)
 
   inside : e * w + w ≤ length (c .before .loop .out)
   inside = omega (arith, fits, c .before .loop .inv .1)
@@ -144,7 +144,7 @@ returns c =
     let s = c .before .before .before .before .before .before .before in
     let p = s .args .p in
     let nodes = s .args .nodes .now in
-    let size : length (s .args .strips .now) ≡ length (halfPairs p nodes) = ap length (s .pre .1 .0) in
+    let size : length (s .args .halves .now) ≡ length (halfPairs p nodes) = ap length (s .pre .1 .0) in
     let done : l .e ≡ length (halfPairs p nodes) = omega (arith, c .loop-test .left, l .inv .0, size) in
     let long : length (l .out) ≡ length (halfPairs p nodes) * p .s = l .inv .1 ∙ ap (λ (m : ℕ). m * p .s) size in
     sym (take-all (length (halfPairs p nodes) * p .s) (l .out) (omega (arith, long)))

@@ -1,6 +1,6 @@
 -- `reading::put_column` meets its contract.
 use mathlib.Core.Path.{_≡_, sym, ap, ap₂, _∙_}
-use mathlib.Core.Bool.{true, false, cond}
+use mathlib.Core.Bool.{cond}
 use mathlib.Core.List.{List}
 use Prim.Native.Nat.{ℕ, _+_, _-_, _*_, _≤_, _<_}
 use native.Mathlib.Nat.{mul-assoc}
@@ -12,7 +12,7 @@ use Rattle.ksets.proofs.Ranked.{risen-length}
 use Rattle.strips.specs.Strips.{combinationOf, stripAt}
 use Rattle.document.proofs.Bounds.{room, table-bound, column-bound, data-bound}
 use Rattle.coefficients.specs.Weights.{positionIn}
-use Rattle.half_pairs.specs.HalfPairs.{isNamed, weightRow}
+use Rattle.half_pairs.specs.HalfPairs.{weightRow}
 use Rattle.half_pairs.proofs.Named.{table-length, table-at}
 use Rattle.half_pairs.proofs.Table.{row-length, row-at, weight-table-length}
 use Rattle.reading.specs.Steps.{baseColumn}

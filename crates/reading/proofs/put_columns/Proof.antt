@@ -1,7 +1,6 @@
 -- `reading::put_columns` meets its contract. The invariant: the columns before j are written.
-use mathlib.Core.Path.{_≡_, sym, ap, subst, _∙_}
-use mathlib.Core.List.{List}
-use Prim.Native.Nat.{ℕ, _+_, _-_, _*_, _≤_, _<_}
+use mathlib.Core.Path.{_≡_, sym, subst, _∙_}
+use Prim.Native.Nat.{ℕ, _+_, _-_, _*_, _≤_}
 use native.Mathlib.Nat.{mul-assoc}
 use native.Mathlib.Omega.{arith}
 use borrow.Author.Needs.{needs}
@@ -115,7 +114,8 @@ returns c =
     let p = s .args .p in
     let e : l .j ≡ p .k = omega (arith, c .loop-test .left, l .inv .0) in
     sym (take-all (p .k * w s) (l .out) (omega (arith, l .inv .1)))
-    ∙ subst (λ (j : ℕ). take (j * w s) (l .out) ≡ parts (w s) (baseColumn p (s .args .nodes .now) (s .args .y .now)) j) e (l .inv .2)
+    ∙ subst (λ (j : ℕ). take (j * w s) (l .out) ≡ parts (w s) (baseColumn p (s .args .nodes .now) (s .args .y .now)) j) e
+    (l .inv .2)
 
 pub put-columns-spec : {M : Type 1} → statement M
 put-columns-spec =

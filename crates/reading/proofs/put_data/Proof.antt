@@ -1,6 +1,6 @@
 -- `reading::put_data` meets its contract.
-use mathlib.Core.Path.{_≡_, sym, _∙_}
-use Prim.Native.Nat.{ℕ, _≤_}
+use mathlib.Core.Path.{sym, _∙_}
+use Prim.Native.Nat.{_≤_}
 use native.Mathlib.Omega.{arith}
 use borrow.Author.Needs.{needs}
 use lib.ListN.{length}
@@ -9,30 +9,30 @@ use Rattle.document.proofs.Bounds.{data-bound}
 use Rattle.reading.proofs.put_data.Statement.{statement}
 use Rattle.reading.proofs.put_data.Tie as tie
 
-abbrev start : tie.After-put-by-arg → tie.Start
+abbrev start : tie.After-put-data-in-arg → tie.Start
 start c = c .before .before .before .before .before .before .before
 
-few : (c : tie.After-put-by-arg) → length (start c .args .out .now) ≤ 40960
+few : (c : tie.After-put-data-in-arg) → length (start c .args .out .now) ≤ 40960
 few c = let s = start c in omega (arith, s .pre .1 .1 .1, data-bound (s .args .p) (s .pre .0 .0))
 
 array-borrow-prefix-y : tie.Need-array-borrow-prefix-y
 array-borrow-prefix-y c = few c
 
-slice-aggregate-put-by : tie.Need-slice-aggregate-put-by
-slice-aggregate-put-by c = sym (length-take-le _ _ (few (c .before)))
+slice-aggregate-put-data-in : tie.Need-slice-aggregate-put-data-in
+slice-aggregate-put-data-in c = sym (length-take-le _ _ (few (c .before)))
 
-put-by-requires : tie.Need-put-by-requires
-put-by-requires c κs =
+put-data-in-requires : tie.Need-put-data-in-requires
+put-data-in-requires c κs =
     let s = start (c .before) in
-    (s .pre .0, (s .pre .1 .0, (s .pre .1 .1 .0, s .pre .1 .1 .1, sym (slice-aggregate-put-by c) ∙ s .pre .1 .1 .1)))
+    (s .pre .0, (s .pre .1 .0, (s .pre .1 .1 .0, s .pre .1 .1 .1, sym (slice-aggregate-put-data-in c) ∙ s .pre .1 .1 .1)))
 
 same-length : tie.Need-same-length
 same-length c = search needs
 
 returns : tie.Need-returns
-returns c = c .before .before .before .put-by .ensures
+returns c = c .before .before .before .put-data-in .ensures
 
 pub put-data-spec : {M : Type 1} → statement M
 put-data-spec =
     tie.close
-    (tie.spec array-borrow-prefix-y slice-aggregate-put-by put-by-requires same-length returns)
+    (tie.spec array-borrow-prefix-y slice-aggregate-put-data-in put-data-in-requires same-length returns)

@@ -54,13 +54,13 @@ module _ (c : tie.After-list-half-pairs) where
   count : c .list-half-pairs .result ≤ 80
   count = omega (arith, few, wrote-front (c .list-half-pairs .ensures) .0)
 
-array-share-prefix-strips : tie.Need-array-share-prefix-strips
-array-share-prefix-strips c =
+array-share-prefix-halves : tie.Need-array-share-prefix-halves
+array-share-prefix-halves c =
     let l = c .before .before .before .before in
     omega (arith, count l, l .list-half-pairs .kept .0)
 
 slice-aggregate-system-square-2 : tie.Need-slice-aggregate-system-square-2
-slice-aggregate-system-square-2 c = sym (length-take-le _ _ (array-share-prefix-strips (c .before)))
+slice-aggregate-system-square-2 c = sym (length-take-le _ _ (array-share-prefix-halves (c .before)))
 
 system-square-requires : tie.Need-system-square-requires
 system-square-requires c κs =
@@ -98,13 +98,13 @@ slice-aggregate-put-data c = search needs
 slice-aggregate-put-data-2 : tie.Need-slice-aggregate-put-data-2
 slice-aggregate-put-data-2 c = search needs
 
-array-share-prefix-strips-2 : tie.Need-array-share-prefix-strips-2
-array-share-prefix-strips-2 c =
+array-share-prefix-halves-2 : tie.Need-array-share-prefix-halves-2
+array-share-prefix-halves-2 c =
     let i = c .before .before .before .before .before .before in
-    array-share-prefix-strips (i .before .before .before)
+    array-share-prefix-halves (i .before .before .before)
 
 slice-aggregate-put-data-3 : tie.Need-slice-aggregate-put-data-3
-slice-aggregate-put-data-3 c = sym (length-take-le _ _ (array-share-prefix-strips-2 (c .before)))
+slice-aggregate-put-data-3 c = sym (length-take-le _ _ (array-share-prefix-halves-2 (c .before)))
 
 put-data-requires : tie.Need-put-data-requires
 put-data-requires c κs =
@@ -156,7 +156,7 @@ read-from-spec =
     slice-aggregate-weight-table
     weight-table-requires
     slice-aggregate-system-square
-    array-share-prefix-strips
+    array-share-prefix-halves
     slice-aggregate-system-square-2
     system-square-requires
     invert-requires
@@ -164,7 +164,7 @@ read-from-spec =
     enum-told-2
     slice-aggregate-put-data
     slice-aggregate-put-data-2
-    array-share-prefix-strips-2
+    array-share-prefix-halves-2
     slice-aggregate-put-data-3
     put-data-requires
     returns

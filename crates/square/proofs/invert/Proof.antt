@@ -1,7 +1,6 @@
 -- `square::invert` meets its contract. The loop's invariant: the elimination that is left, on the square and right half
 -- reached, ends as the whole one does.
 use mathlib.Core.Path.{_≡_, sym, ap, ap₂, _∙_}
-use mathlib.Core.List.{List}
 use Prim.Native.Nat.{ℕ, _-_, _%_, _≤_, _<_}
 use native.Mathlib.Omega.{arith}
 use lib.ListN.{length, getD}

@@ -1,5 +1,5 @@
 -- `survey::fails` meets its contract: the verdict on the system of the half pairs tells whether the set is ambiguous.
-use mathlib.Core.Path.{_≡_, sym, ap, ap₂, _∙_}
+use mathlib.Core.Path.{_≡_, sym, ap₂, _∙_}
 use mathlib.Core.List.{List}
 use Prim.Native.Nat.{ℕ, _≤_}
 use native.Mathlib.Omega.{arith}
@@ -50,13 +50,13 @@ module _ (c : tie.After-list-half-pairs) where
   count : c .list-half-pairs .result ≤ 80
   count = omega (arith, few, wrote-front (c .list-half-pairs .ensures) .0)
 
-array-share-prefix-strips : tie.Need-array-share-prefix-strips
-array-share-prefix-strips c =
+array-share-prefix-halves : tie.Need-array-share-prefix-halves
+array-share-prefix-halves c =
     let l = c .before .before .before .before in
     omega (arith, count l, l .list-half-pairs .kept .0)
 
 slice-aggregate-system-square-2 : tie.Need-slice-aggregate-system-square-2
-slice-aggregate-system-square-2 c = sym (length-take-le _ _ (array-share-prefix-strips (c .before)))
+slice-aggregate-system-square-2 c = sym (length-take-le _ _ (array-share-prefix-halves (c .before)))
 
 system-square-requires : tie.Need-system-square-requires
 system-square-requires c κs =
@@ -92,12 +92,16 @@ enum-told-2 c = search needs
 returns : tie.Need-returns
 returns c =
     let j = c .before .before in
-    sym (stuck-ambiguous (s j .args .p) (s j .args .set .now) (s j .pre .0) (s j .pre .1) _ (sym (judged j) ∙ c .enum-told .given .1))
+    sym
+    (stuck-ambiguous (s j .args .p) (s j .args .set .now) (s j .pre .0) (s j .pre .1) _
+    (sym (judged j) ∙ c .enum-told .given .1))
 
 returns-2 : tie.Need-returns-2
 returns-2 c =
     let j = c .before .before in
-    sym (regular-clear (s j .args .p) (s j .args .set .now) (s j .pre .0) (s j .pre .1) (sym (judged j) ∙ c .enum-told2 .given .1))
+    sym
+    (regular-clear (s j .args .p) (s j .args .set .now) (s j .pre .0) (s j .pre .1)
+    (sym (judged j) ∙ c .enum-told2 .given .1))
 
 pub fails-spec : {M : Type 1} → statement M
 fails-spec =
@@ -110,7 +114,7 @@ fails-spec =
     slice-aggregate-weight-table
     weight-table-requires
     slice-aggregate-system-square
-    array-share-prefix-strips
+    array-share-prefix-halves
     slice-aggregate-system-square-2
     system-square-requires
     judge-requires

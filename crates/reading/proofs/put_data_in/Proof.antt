@@ -1,4 +1,4 @@
--- `reading::put_by` meets its contract: each step leaves what the next is lent.
+-- `reading::put_data_in` meets its contract: each step leaves what the next is lent.
 use mathlib.Core.Path.{_≡_, sym, ap, ap₂, _∙_}
 use mathlib.Core.Bool.{not}
 use mathlib.Core.List.{List, _++_}
@@ -9,14 +9,13 @@ use borrow.Author.Needs.{needs}
 use lib.ListN.{length, take, drop, length-append, length-drop}
 use lib.Seq.{length-take-le}
 use Rattle.lists.proofs.Lent.{front-fits, front}
-use Rattle.lists.proofs.Listed.{listed-length}
 use Rattle.lists.proofs.Rising.{rising-length}
 use Rattle.document.specs.declared.Profile.{Profile}
 use Rattle.document.proofs.Bounds.{data-bound}
 use Rattle.half_pairs.specs.HalfPairs.{isNamed, partnerAt, halfPairs}
 use Rattle.reading.specs.Steps.{knownStrips, knownPartnerStrips, completed, baseColumns, dataBy}
-use Rattle.reading.proofs.put_by.Statement.{statement}
-use Rattle.reading.proofs.put_by.Tie as tie
+use Rattle.reading.proofs.put_data_in.Statement.{statement}
+use Rattle.reading.proofs.put_data_in.Tie as tie
 
 module _ (s : tie.Start) where
   abbrev p : Profile
@@ -29,10 +28,10 @@ module _ (s : tie.Start) where
   columns = s .args .columns .now
 
   -- the partners' strips are no more than all strips
-  few : length (s .args .strips .now) * p .s ≤ p .k * p .a * p .s
+  few : length (s .args .halves .now) * p .s ≤ p .k * p .a * p .s
   unfolding halfPairs
   few =
-      let size : length (s .args .strips .now) ≡ length (halfPairs p nodes) = ap length (s .pre .1 .0 .1) in
+      let size : length (s .args .halves .now) ≡ length (halfPairs p nodes) = ap length (s .pre .1 .0 .1) in
       let short = rising-length (λ z. not (isNamed (p .k) nodes (partnerAt p nodes z .node .0))) (p .k * p .a) in
       mul-le-mul-right (p .s) (omega (arith, size, short))
 
@@ -50,7 +49,7 @@ module _ (c : tie.After-known-strips) where
   start = c .before .before .before .before .before .before .before .before .before .before
 
   -- the strips fit the output
-  room : length (start .args .strips .now) * p start .s ≤ length (start .args .out .now)
+  room : length (start .args .halves .now) * p start .s ≤ length (start .args .out .now)
   room = omega (arith, few start, start .pre .1 .1 .1)
 
 slice-relend-prefix-known-partners : tie.Need-slice-relend-prefix-known-partners
@@ -76,9 +75,10 @@ module _ (c : tie.After-known-partners) where
   begun = start known
 
   abbrev size : ℕ
-  size = length (begun .args .strips .now) * p begun .s
+  size = length (begun .args .halves .now) * p begun .s
 
-  made : c .known-partners .last .0 ≡ knownPartnerStrips (p begun) (nodes begun) (knownStrips (p begun) (nodes begun) (columns begun))
+  made : c .known-partners .last .0
+      ≡ knownPartnerStrips (p begun) (nodes begun) (knownStrips (p begun) (nodes begun) (columns begun))
   made = c .known-partners .ensures ∙ ap (knownPartnerStrips (p begun) (nodes begun)) (known .known-strips .ensures)
 
   written : length (c .known-partners .last .0) ≡ size
@@ -139,13 +139,13 @@ returns c =
     e .put-columns .ensures
     ∙ ap (baseColumns (p s) (nodes s))
     (d .complete .ensures
-    ∙ ap₂ (λ (r z : List ℕ). completed (p s) (nodes s) (s .args .lines) r (length (s .args .strips .now)) z)
+    ∙ ap₂ (λ (r z : List ℕ). completed (p s) (nodes s) (s .args .lines) r (length (s .args .halves .now)) z)
     (lent t ∙ made t) (known t .known-strips .ensures)
     ∙ ap (λ (m : ℕ). completed (p s) (nodes s) (s .args .lines) (knownPartnerStrips (p s) (nodes s) y) m y)
     (ap length (s .pre .1 .0 .1)))
 
-pub put-by-spec : {M : Type 1} → statement M
-put-by-spec =
+pub put-data-in-spec : {M : Type 1} → statement M
+put-data-in-spec =
     tie.close
     (tie.spec
     mul-partners
