@@ -9,7 +9,7 @@ ghost use Rattle.document.specs.Places.{Within};
 ghost use Rattle.document.specs.Plan.{planned, priceOf, maxPlaces};
 ghost use Rattle.document.specs.Bundle.{recordingBytes, recordingLength, profileContent, profileContentLength};
 ghost use Rattle.document.specs.Bundle.{lostContent, lostContentLength, stripContent, stripOf, headLength};
-ghost use Rattle.document.specs.Bundle.{stripFieldLength, stripFields, bundleLength, bundleOf, writeOf};
+ghost use Rattle.document.specs.Bundle.{stripFieldLength, stripFields, bundleLength, bundleOf, writeWith, writeOf};
 ghost use Rattle.document.specs.Bundle.{stripFieldStart};
 ghost use Rattle.bundle.specs.Reader.{placeAt};
 
@@ -172,6 +172,25 @@ fn put_bundle(out: &mut [u8], p: Profile, f: Node, r: Recording, array: &[u8]) -
     put_strips(out, after_lost, p, f, r, array)
 }
 
+// Writes a bundle with an accepted profile.
+fn write_with(p: Profile, f: Node, r: Recording, array: &[u8], bundle: &mut [u8]) -> Answer
+    requires { ⌜ Accepted p ⌝ }
+    ensures { λ a. ⌜ (a, now (bundle .exit)) ≡ writeWith p f r (now (array .entry)) (now (bundle .entry)) ⌝ }
+{
+    if f.0 >= p.n {
+        return Answer::Refused(Refusal::OutOfRange);
+    }
+    if array.len() != p.n * p.a * p.s {
+        return Answer::Refused(Refusal::BufferLength);
+    }
+    let length = bundle_length(p);
+    if bundle.len() != length {
+        return Answer::Refused(Refusal::BufferLength);
+    }
+    put_bundle(bundle, p, f, r, array);
+    Answer::Done(length)
+}
+
 // Cuts the bundle for a lost node from a stored array. After a refusal all bytes are what they were.
 pub fn write_bundle(
     p: Numbers,
@@ -185,19 +204,6 @@ pub fn write_bundle(
     let checked = Profile::new(p);
     match checked {
         Checked::Rejected(refusal) => Answer::Refused(refusal),
-        Checked::Passed(q) => {
-            if lost >= q.n {
-                return Answer::Refused(Refusal::OutOfRange);
-            }
-            if array.len() != q.n * q.a * q.s {
-                return Answer::Refused(Refusal::BufferLength);
-            }
-            let length = bundle_length(q);
-            if bundle.len() != length {
-                return Answer::Refused(Refusal::BufferLength);
-            }
-            put_bundle(bundle, q, Node(lost), r, array);
-            Answer::Done(length)
-        }
+        Checked::Passed(q) => write_with(q, Node(lost), r, array, bundle),
     }
 }

@@ -15,16 +15,7 @@ use Rattle.document.specs.Refusals.{answerValue}
 use Rattle.document.specs.Profile.{Accepted, profileOf}
 use Rattle.document.specs.Places.{place, partnerOf, Within}
 use Rattle.document.specs.Bytes.{bytes, Byte, byte}
-use Rattle.document.specs.Encoding.{
-  byteAt,
-  baseAt,
-  constantOf,
-  coupledAt,
-  laidOut,
-  encoded,
-  encodeTests,
-  encodeOf,
-}
+use Rattle.document.specs.Encoding.{byteAt, baseAt, constantOf, coupledAt, laidOut, encoded, encodeOf}
 use Rattle.document.proofs.Bytes.{points-distinct}
 use Rattle.document.proofs.Bounds.{partner-within}
 use Rattle.document.proofs.Rows.{row-word, row-data}
@@ -41,7 +32,10 @@ use Rattle.document.proofs.Arrays.{
 }
 use Rattle.demands.specs.Refusals.{encodeSentences}
 use Rattle.demands.specs.Encoding.{DocumentArray, OneArray, Demand2Encode}
-use Rattle.demands.proofs.Demand1.{answered, tried-done, done-accepted, done-sizes, demand-1-encode}
+use Rattle.document.specs.declared.Refusal.the-variants.{BufferLength}
+use Rattle.document.proofs.Decides.{decides-eq}
+use Rattle.demands.proofs.Tables.{decided, this, Granted}
+use Rattle.demands.proofs.Demand1.{encode-granted}
 
 module _ (p : Profile) where
   open Profile p using (n, k, a as A, s as S)
@@ -121,17 +115,11 @@ one-array p acc d x y X Y = encoded-only p acc d x X ∙ sym (encoded-only p acc
 
 -- Encoding writes it.
 pub demand-2-encode : Demand2Encode
-unfolding encodeOf encodeSentences answerValue
-demand-2-encode p d x e = (rw done refl, rw done (encoded-is (profileOf p) accepted d (done-sizes p d x v is-done .0)))
+unfolding encodeSentences answerValue
+demand-2-encode p d x e = (rw (granted .is-done) refl, rw (granted .is-done) (encoded-is (profileOf p) (granted .accepted) d size))
   where
-    v : ℕ
-    v = answerValue (encodeOf p d x .0)
+    granted : Granted p (encodeSentences (profileOf p) d x) (encodeOf p d x) (Done 0, encoded (profileOf p) d)
+    granted = encode-granted p d x e
 
-    is-done : encodeOf p d x .0 ≡ Done v
-    is-done = answered (encodeOf p d x .0) e
-
-    done : encodeOf p d x ≡ (Done 0, encoded (profileOf p) d)
-    done = tried-done x 0 (encoded (profileOf p) d) (encodeTests p d x) v is-done
-
-    accepted : Accepted (profileOf p)
-    accepted = done-accepted x p _ (encodeOf p d x) v (demand-1-encode p d x .refuses) is-done
+    size : length d ≡ p .k * p .a * p .s
+    size = decided _ (decides-eq (length d) _) (λ n. granted .refuted {r = BufferLength} (this (λ h. n (h .0))))

@@ -1,21 +1,17 @@
 -- Demand 3: the plan, the bundle and the rebuild.
 use mathlib.Core.Path.{_≡_, refl, sym, ap, _∙_}
-use mathlib.Core.Logic.{_≢_}
-use mathlib.Core.Bool.{not}
-use mathlib.Core.List.{List, [], _∷_, _++_, append-nil}
+use mathlib.Core.List.{List, _++_}
 use Prim.Native.Nat.{ℕ, _+_, _*_, _≤_, _<_}
 use native.Mathlib.Omega.{arith}
-use lib.Dec.{eqb, ltb}
 use lib.ListN.{length, getD, drop}
 use Rattle.lists.specs.Listed.{listed}
 use Rattle.lists.proofs.Slice.{slice-at, slice-length}
-use Rattle.fields.specs.Fields.{twoBytes, fourBytes, opening}
+use Rattle.fields.specs.Fields.{twoBytes, opening}
 use Rattle.document.specs.declared.Numbers.{Numbers}
 use Rattle.document.specs.declared.Profile.{Profile}
 use Rattle.document.specs.declared.Node.{Node}
 use Rattle.document.specs.declared.Place.{Place}
 use Rattle.document.specs.declared.Recording.{Recording}
-use Rattle.document.specs.declared.Refusal.{Refusal}
 use Rattle.document.specs.declared.Refusal.the-variants.{
   OutOfRange,
   BufferLength,
@@ -27,10 +23,10 @@ use Rattle.document.specs.declared.Refusal.the-variants.{
 use Rattle.document.specs.declared.Answer.{Answer}
 use Rattle.document.specs.declared.Answer.the-variants.{Done, Refused}
 use Rattle.document.specs.Refusals.{answerNumber, answerValue, tried}
-use Rattle.document.specs.Profile.{Accepted, profileTests, profileOf}
+use Rattle.document.specs.Profile.{Accepted, profileOf, onAccepted}
 use Rattle.document.specs.Places.{place}
 use Rattle.document.specs.Encoding.{byteAt}
-use Rattle.document.specs.Plan.{walkOf, planOver, planned, plannedAt, priceOf, planBytes, planTests, planOf}
+use Rattle.document.specs.Plan.{walkOf, planOver, planned, plannedAt, priceOf, planBytes, planOf}
 use Rattle.document.specs.Bundle.{
   recordingBytes,
   profileContent,
@@ -38,16 +34,15 @@ use Rattle.document.specs.Bundle.{
   stripFieldLength,
   stripOf,
   bundleOf,
-  writeTests,
   writeOf,
   stripFieldStart,
   placeIn,
   recordingIn,
   stripIn,
-  bundleTests,
 }
-use Rattle.document.specs.Rebuild.{rebuiltOf, firstStrip, rebuildTests, rebuildOf}
+use Rattle.document.specs.Rebuild.{rebuiltOf, firstStrip, rebuildTests, rebuildWith, rebuildOf}
 use Rattle.document.proofs.Decides.{decides-lt, decides-eq, decides-list, decides-place}
+use Rattle.document.proofs.Accepts.{on-accepted-map, on-accepted-same}
 use Rattle.document.proofs.Tried.{tried-map}
 use Rattle.document.proofs.Bounds.{room, A>0}
 use Rattle.document.proofs.Walks.{Sound, complete-sound, walk-complete, walk-sound}
@@ -65,15 +60,11 @@ use Rattle.document.proofs.Cut.{
   cut-strip,
 }
 use Rattle.demands.specs.Refusals.{
-  FirstOf,
-  here,
-  later,
   planSentences,
   writeSentences,
   Formed,
   Headed,
-  placeRead,
-  scenarioRead,
+  stripSentences,
   bundleSentences,
   rebuildSentences,
 }
@@ -99,27 +90,31 @@ use Rattle.demands.specs.Rebuild.{
   CutColumn,
   CutRebuilds,
 }
-use Rattle.demands.proofs.Demand1.{
-  answered,
+use Rattle.demands.proofs.Tables.{
   decided,
-  first-later,
-  first-past,
-  first-nowhere,
-  lines-fail,
-  lines-past,
-  tried-done,
-  done-accepted,
-  done-later,
-  accepted-later,
+  Holds,
+  this,
+  next,
+  by-name,
+  holds-left,
+  holds-right,
+  holds-listed,
+  fails-append,
+  fails-listed,
+  Granted,
+  call-through,
+}
+use Rattle.demands.proofs.Demand1.{
+  plan-granted,
+  write-granted,
   length-is,
   place-is,
   scenario-is,
   opening-is,
   decides-formed,
   decides-headed,
-  demand-1-plan,
-  demand-1-write,
-  demand-1-rebuild,
+  rebuild-decided,
+  rebuild-granted,
 }
 use Rattle.demands.proofs.Strips.{same-rebuilt, column-of, array-gives, bundle-gives, some-fits}
 
@@ -139,11 +134,12 @@ unfolding planned
 demand-3-walk p f = (walk-complete p f, refl)
 
 pub demand-3-plan : Demand3Plan
-unfolding planOf planSentences planned answerValue
+unfolding planSentences planned answerValue
 demand-3-plan p f x e = record {
-  written = ap (λ o. o .1) done;
-  number = ap (λ o. answerValue (o .0)) done;
-  places = demand-3-places (profileOf p) acc lost below (walkOf (profileOf p) lost) (walk-complete (profileOf p) lost);
+  written = ap (λ o. o .1) (granted .is-done);
+  number = ap (λ o. answerValue (o .0)) (granted .is-done);
+  places = demand-3-places (profileOf p) (granted .accepted) lost below (walkOf (profileOf p) lost)
+      (walk-complete (profileOf p) lost);
 }
   where
     lost : Node
@@ -152,22 +148,12 @@ demand-3-plan p f x e = record {
     plan : List Place
     plan = planned (profileOf p) lost
 
-    v : ℕ
-    v = answerValue (planOf p f x .0)
-
-    is-done : planOf p f x .0 ≡ Done v
-    is-done = answered (planOf p f x .0) e
-
-    done : planOf p f x ≡ (Done (length plan), planBytes plan ++ drop (2 * length plan) x)
-    done = tried-done x (length plan) (planBytes plan ++ drop (2 * length plan) x) (planTests p f x) v is-done
-
-    acc : Accepted (profileOf p)
-    acc = done-accepted x p _ (planOf p f x) v (demand-1-plan p f x .refuses) is-done
+    granted : Granted p (planSentences (profileOf p) lost x) (planOf p f x)
+        (Done (length plan), planBytes plan ++ drop (2 * length plan) x)
+    granted = plan-granted p f x e
 
     below : f < p .n
-    below =
-        decided _ (decides-lt f (p .n))
-        (λ m. done-later x p _ (planOf p f x) v (demand-1-plan p f x .refuses) is-done OutOfRange (here m))
+    below = decided _ (decides-lt f (p .n)) (λ n. granted .refuted {r = OutOfRange} (search by-name))
 
 -- ---- the bundle and the rebuild
 pub fits : Fits
@@ -188,77 +174,50 @@ module _ (p : Numbers) (f : ℕ) (r : Recording) (b y : List ℕ) (e : NotRefuse
   abbrev lost : Node
   lost = record { 0 = f }
 
-  is-done : rebuildOf p f r b y .0 ≡ Done (answerValue (rebuildOf p f r b y .0))
-  is-done = answered (rebuildOf p f r b y .0) e
+  granted : Granted p (rebuildSentences profile lost r b y) (rebuildOf p f r b y)
+      (Done 0, rebuiltOf profile lost b firstStrip (stripFieldLength (p .s)))
+  granted = rebuild-granted p f r b y e
 
   done-rebuild : rebuildOf p f r b y ≡ (Done 0, rebuiltOf profile lost b firstStrip (stripFieldLength (p .s)))
-  unfolding rebuildOf
-  done-rebuild =
-      tried-done y 0 (rebuiltOf profile lost b firstStrip (stripFieldLength (p .s))) (rebuildTests p f r b y) _ is-done
+  done-rebuild = granted .is-done
 
   pub acc : Accepted profile
-  unfolding rebuildSentences
-  acc = done-accepted y p _ (rebuildOf p f r b y) _ (demand-1-rebuild p f r b y .refuses) is-done
-
-  later-lines : (q : Refusal)
-      → FirstOf (record { refusal = OutOfRange; says = f < p .n → ⊥ }
-      ∷ record { refusal = BufferLength; says = length y ≢ p .a * p .s } ∷ bundleSentences profile lost r b) q → ⊥
-  unfolding rebuildSentences
-  later-lines = done-later y p _ (rebuildOf p f r b y) _ (demand-1-rebuild p f r b y .refuses) is-done
+  acc = granted .accepted
 
   pub below : f < p .n
-  below = decided _ (decides-lt f (p .n)) (λ m. later-lines OutOfRange (here m))
-
-  column-size : length y ≡ p .a * p .s
-  column-size =
-      decided _ (decides-eq (length y) (p .a * p .s))
-      (λ m. later-lines BufferLength (later (λ n. n below) (here m)))
+  unfolding rebuildSentences
+  below = decided _ (decides-lt f (p .n)) (λ n. granted .refuted {r = OutOfRange} (search by-name))
 
   pub is-formed : Formed profile lost b
-  unfolding bundleSentences
+  unfolding rebuildSentences bundleSentences
   is-formed =
-      decided _ (decides-formed profile lost r b)
-      (λ m. later-lines BundleForm (later (λ n. n below) (later (λ n. n column-size) (here m))))
+      decided _ (decides-formed profile lost r b) (λ n. granted .refuted {r = BundleForm} (search by-name))
 
   pub is-headed : Headed profile lost r b
-  unfolding bundleSentences
+  unfolding rebuildSentences bundleSentences
   is-headed =
-      decided _ (decides-headed profile lost r b)
-      (λ m. later-lines BundleHead
-      (later (λ n. n below) (later (λ n. n column-size) (later (λ n. n is-formed) (here m)))))
+      decided _ (decides-headed profile lost r b) (λ n. granted .refuted {r = BundleHead} (search by-name))
 
   -- the lines of 8 and 9
-  strip-lines : (q : Refusal)
-      → FirstOf
-      (listed (length (planned profile lost))
-      (λ i. record { refusal = Misplaced i; says = placeRead profile b i ≢ plannedAt profile lost i })
-      ++ listed (length (planned profile lost))
-      (λ i. record { refusal = Stale i; says = scenarioRead profile b i ≢ fourBytes (r .scenario) })) q
-      → ⊥
-  unfolding bundleSentences
-  strip-lines q first =
-      later-lines q
-      (later (λ n. n below) (later (λ n. n column-size) (later (λ n. n is-formed) (later (λ n. n is-headed) first))))
+  module _ (i : ℕ) (l : i < length (planned profile lost)) where
+    pub is-placed : placeIn profile b i ≡ plannedAt profile lost i
+    unfolding rebuildSentences bundleSentences stripSentences
+    is-placed =
+        decided _ (decides-place (placeIn profile b i) (plannedAt profile lost i))
+        (λ m.
+        let held : Holds (stripSentences profile lost r b) (Misplaced i) =
+        holds-left _ (holds-listed _ _ i l (λ e. m (place-is profile b i ∙ e))) in
+        granted .refuted {r = Misplaced i} (search by-name))
 
-  pub is-placed : (i : ℕ) → i < length (planned profile lost) → placeIn profile b i ≡ plannedAt profile lost i
-  is-placed i l =
-      decided _ (decides-place (placeIn profile b i) (plannedAt profile lost i))
-      (λ m. lines-fail (length (planned profile lost)) _ _ strip-lines i l (λ e. m (place-is profile b i ∙ e)))
-
-  pub is-fresh : (i : ℕ) → i < length (planned profile lost) → recordingIn profile b i ≡ recordingBytes r
-  unfolding recordingBytes
-  is-fresh i l =
-      decided _ (decides-list (recordingIn profile b i) (recordingBytes r))
-      (λ m. lines-fail (length (planned profile lost)) _ [] stale-lines i l
-      (λ e. m (scenario-is profile b i ∙ e)))
-    where
-      stale-lines : (q : Refusal)
-          → FirstOf
-          (listed (length (planned profile lost))
-          (λ i. record { refusal = Stale i; says = scenarioRead profile b i ≢ fourBytes (r .scenario) }) ++ []) q
-          → ⊥
-      stale-lines q first =
-          lines-past (length (planned profile lost)) _ strip-lines q (rw append-nil at first)
+    pub is-fresh : recordingIn profile b i ≡ recordingBytes r
+    unfolding rebuildSentences bundleSentences stripSentences recordingBytes
+    is-fresh =
+        decided _ (decides-list (recordingIn profile b i) (recordingBytes r))
+        (λ m.
+        let held : Holds (stripSentences profile lost r b) (Stale i) =
+        holds-right (listed (length (planned profile lost)) _)
+        (holds-listed _ _ i l (λ e. m (scenario-is profile b i ∙ e))) in
+        granted .refuted {r = Stale i} (search by-name))
 
   sound : Sound (p .n) (p .a) lost (walkOf profile lost)
   sound = walk-sound profile acc lost below
@@ -311,22 +270,16 @@ module _ (p : Numbers) (f : ℕ) where
       (walkOf (profileOf p) (record { 0 = f })) (sound p f r b y d) c) same
       ∙ sym (ap (λ o. o .1) (done-rebuild p f u c z e))
 
-  -- the answer alone
-  only-answer : (r : Recording) (b y : List ℕ)
-      → rebuildOf p f r b y .0 ≡ tried (rebuildTests p f r b y) Refused (Done 0)
-  unfolding rebuildOf
-  only-answer r b y = tried-map {X = Answer × List ℕ} (λ o. o .0) (rebuildTests p f r b y) _ _
-
   pub same-answer : SameAnswer p f
-  unfolding rebuildTests
-  same-answer r b y z e =
-      only-answer r b y
-      ∙ ap (λ (m : ℕ). tried
-      (profileTests p
-      ++ (record { refusal = OutOfRange; holds = not (ltb f (p .n)) }
-      ∷ record { refusal = BufferLength; holds = not (eqb m (p .a * p .s)) }
-      ∷ bundleTests (profileOf p) (record { 0 = f }) r b)) Refused (Done 0)) e
-      ∙ sym (only-answer r b z)
+  unfolding rebuildOf rebuildWith rebuildTests
+  same-answer r b y z e = answer y ∙ (rw e) ∙ sym (answer z)
+    where
+      answer : (y : List ℕ) → rebuildOf p f r b y .0
+          ≡ onAccepted p Refused (λ q. tried (rebuildTests q (record { 0 = f }) r b y) Refused (Done 0))
+      answer y =
+          on-accepted-map (λ (o : Answer × List ℕ). o .0) p _ _
+          ∙ on-accepted-same p Refused _ _
+          (λ acc. tried-map (λ (o : Answer × List ℕ). o .0) (rebuildTests (profileOf p) (record { 0 = f }) r b y) _ _)
 
 -- Writing a bundle that is not refused.
 module _ (p : Numbers) (f : ℕ) (r : Recording) (x b : List ℕ) (e : answerNumber (writeOf p f r x b .0) ≡ 0) where
@@ -339,34 +292,24 @@ module _ (p : Numbers) (f : ℕ) (r : Recording) (x b : List ℕ) (e : answerNum
   abbrev bundle : List ℕ
   bundle = bundleOf wanted node r x
 
-  is-written : writeOf p f r x b .0 ≡ Done (answerValue (writeOf p f r x b .0))
-  is-written = answered (writeOf p f r x b .0) e
+  written : Granted p (writeSentences wanted node x b) (writeOf p f r x b) (Done (length bundle), bundle)
+  written = write-granted p f r x b e
 
   done-write : writeOf p f r x b ≡ (Done (length bundle), bundle)
-  unfolding writeOf
-  done-write = tried-done b (length bundle) bundle (writeTests p f x b) _ is-written
+  done-write = written .is-done
 
   pub cut-accepted : Accepted wanted
-  unfolding writeSentences
-  cut-accepted = done-accepted b p _ (writeOf p f r x b) _ (demand-1-write p f r x b .refuses) is-written
-
-  later-write : (q : Refusal)
-      → FirstOf (record { refusal = OutOfRange; says = f < p .n → ⊥ }
-      ∷ record {
-        refusal = BufferLength;
-        says = (length x ≡ p .n * p .a * p .s) × (length b ≡ 17 + length (planned wanted node) * (9 + p .s)) → ⊥;
-      }
-      ∷ []) q → ⊥
-  unfolding writeSentences
-  later-write = done-later b p _ (writeOf p f r x b) _ (demand-1-write p f r x b .refuses) is-written
+  cut-accepted = written .accepted
 
   cut-below : f < p .n
-  cut-below = decided _ (decides-lt f (p .n)) (λ m. later-write OutOfRange (here m))
+  unfolding writeSentences
+  cut-below = decided _ (decides-lt f (p .n)) (λ n. written .refuted {r = OutOfRange} (search by-name))
 
   array-size : length x ≡ p .n * p .a * p .s
+  unfolding writeSentences
   array-size =
       decided _ (decides-eq (length x) (p .n * p .a * p .s))
-      (λ m. later-write BufferLength (later (λ n. n cut-below) (here (λ h. m (h .0)))))
+      (λ n. written .refuted {r = BufferLength} (next (this (λ h. n (h .0)))))
 
   strips-cut : (i : ℕ) → i < length (planned wanted node)
       → stripOf wanted x (getD (planned wanted node) i (place 0 0)) ≡ stripIn wanted bundle i
@@ -408,25 +351,29 @@ module _ (p : Numbers) (f : ℕ) (r : Recording) (x b : List ℕ) (e : answerNum
   }
 
   -- none of a rebuild's refusals holds
-  unrefused : (y : List ℕ) → length y ≡ p .a * p .s → (q : Refusal) → FirstOf (rebuildSentences p f r bundle y) q → ⊥
-  unfolding rebuildSentences bundleSentences recordingBytes
-  unrefused y size q first =
-      first-nowhere (length (planned wanted node)) _
-      (λ i l m. m
-      (sym (scenario-is wanted bundle i) ∙ cut-recording wanted cut-accepted r x array-size node cut-below i l)) q
-      (first-past (length (planned wanted node)) _
-      (λ i l m. m (sym (place-is wanted bundle i) ∙ cut-place wanted cut-accepted r x array-size node cut-below i l)) q
-      (first-later (λ m. m headed-cut) q
-      (first-later (λ m. m formed-cut) q
-      (first-later (λ m. m size) q (first-later (λ m. m cut-below) q (accepted-later p cut-accepted q first))))))
-
   passes : (y : List ℕ) → length y ≡ p .a * p .s → NotRefused p f r bundle y
-  unfolding answerNumber
-  passes y size = go (rebuildOf p f r bundle y .0) refl
-    where
-      go : (a : Answer) → rebuildOf p f r bundle y .0 ≡ a → answerNumber a ≡ 0
-      go (Done v) e = refl
-      go (Refused q) e = absurd (unrefused y size q (demand-1-rebuild p f r bundle y .refuses .given q .0 e))
+  unfolding rebuildOf rebuildWith rebuildSentences bundleSentences stripSentences recordingBytes answerNumber
+  passes y size =
+      ap (λ (o : Answer × List ℕ). answerNumber (o .0))
+      (call-through p y (λ q. rebuildTests q node r bundle y) (λ q. 0)
+      (λ q. rebuiltOf q node bundle firstStrip (stripFieldLength (q .s))) (λ acc. rebuild-decided _ node r bundle y)
+      cut-accepted (
+        (λ m. m cut-below),
+        (
+          (λ m. m size),
+          (
+            (λ m. m formed-cut),
+            (
+              (λ m. m headed-cut),
+              fails-append (listed (length (planned wanted node)) _) _
+                  (fails-listed (length (planned wanted node)) _ (λ i l m. m
+                  (sym (place-is wanted bundle i) ∙ cut-place wanted cut-accepted r x array-size node cut-below i l)))
+                  (fails-listed (length (planned wanted node)) _ (λ i l m. m
+                  (sym (scenario-is wanted bundle i) ∙ cut-recording wanted cut-accepted r x array-size node cut-below i l))),
+            ),
+          ),
+        ),
+      ))
 
 pub demand-3-write : Demand3Write
 demand-3-write p f r x b e = written-bundle p f r x b e

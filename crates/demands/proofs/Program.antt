@@ -1,28 +1,29 @@
 -- What the small program writes.
-use mathlib.Core.Path.{_≡_, refl, sym, ap, _∙_}
-use mathlib.Core.Logic.{_≢_}
-use mathlib.Core.List.{List, [], _∷_, _++_}
-use Prim.Native.Nat.{ℕ, zero, suc, _*_}
+use mathlib.Core.Path.{_≡_, refl, ap}
+use mathlib.Core.Bool.{Bool, true, not, _&&_}
+use mathlib.Core.List.{List, [], _∷_, _++_, map}
+use Prim.Native.Nat.{ℕ, zero, suc}
 use native.Mathlib.Omega.{arith}
-use lib.ListN.{length, length-replicate}
+use lib.Dec.{eqb}
+use lib.ListN.{length-replicate}
 use Rattle.lists.specs.Listed.{listed}
 use Rattle.document.specs.declared.Refusal.{Refusal}
-use Rattle.document.specs.declared.Refusal.the-variants.{BufferLength}
 use Rattle.document.specs.declared.Answer.{Answer}
 use Rattle.document.specs.declared.Answer.the-variants.{Done, Refused}
 use Rattle.document.specs.Refusals.{numberOf}
+use Rattle.document.proofs.Decides.{decides-eq, decides-not, decides-both}
 use Rattle.document.specs.Program.{lineOf, outputOf, programOf}
 use Rattle.demands.specs.Refusals.{
   Sentence,
-  FirstOf,
-  here,
-  later,
   profileSentences,
+  stripSentences,
   bundleSentences,
   rebuildSentences,
+  numberIn,
 }
-use Rattle.demands.specs.Program.{wanted, lent, table, Demand1Program}
-use Rattle.demands.proofs.Demand1.{answered, first-none, demand-1-rebuild}
+use Rattle.demands.specs.Program.{wanted, own, table, Demand1Program}
+use Rattle.demands.proofs.Tables.{answered, Holds, this, next, first-holds}
+use Rattle.demands.proofs.Demand1.{demand-1-rebuild}
 
 -- ---- the output, by the answer
 column-out : (o : Answer × List ℕ) (v : ℕ) → o .0 ≡ Done v → outputOf o ≡ o .1
@@ -36,48 +37,62 @@ line-out (Done w, x) q e = absurd (let z : _≡_ {A = ℕ} 0 1 = cc in omega ari
 line-out (Refused s, x) q e = let same : s ≡ q = cc in ap lineOf same
 
 -- ---- a refusal that is not in the table is not its first
--- the lines of a table are of other refusals than that with the number m, or do not hold
-data Others (m : ℕ) : List Sentence → Type 1 where
-  none : Others m []
-  other : {s : Sentence} {table : List Sentence} (n : ℕ) → numberOf (s .refusal) ≡ n → n ≢ m → Others m table
-      → Others m (s ∷ table)
-  fails : {s : Sentence} {table : List Sentence} → (s .says → ⊥) → Others m table → Others m (s ∷ table)
+-- the lines of a table with the number m do not hold
+abbrev Without : ℕ → List Sentence → Type 0
+Without m [] = Unit
+Without m (s ∷ table) = (numberOf (s .refusal) ≡ m → s .says → ⊥) × Without m table
 
-not-first : {m : ℕ} {table : List Sentence} → Others m table → (r : Refusal) → FirstOf table r → numberOf r ≡ m → ⊥
-not-first none r first e = first-none r first
-not-first (other n is ne o) r (here h) e = ne (sym is ∙ e)
-not-first (other n is ne o) r (later f h) e = not-first o r h e
-not-first (fails n o) r (here h) e = n h
-not-first (fails n o) r (later f h) e = not-first o r h e
+not-held : (m : ℕ) {table : List Sentence} {r : Refusal} → Holds table r → numberOf r ≡ m → Without m table → ⊥
+not-held m (this h) e w = w .0 e h
+not-held m (next h) e w = not-held m h e (w .1)
 
-others-append : {m : ℕ} {s t : List Sentence} → Others m s → Others m t → Others m (s ++ t)
-others-append none t = t
-others-append (other n is ne o) t = other n is ne (others-append o t)
-others-append (fails n o) t = fails n (others-append o t)
+without-append : (m : ℕ) (a b : List Sentence) → Without m a → Without m b → Without m (a ++ b)
+without-append m [] b f g = g
+without-append m (s ∷ a) b f g = (f .0, without-append m a b (f .1) g)
 
-others-listed : {m : ℕ} (count : ℕ) (s : ℕ → Sentence) (n : ℕ) → ((i : ℕ) → numberOf (s i .refusal) ≡ n) → n ≢ m
-    → Others m (listed count s)
+-- lines with other numbers
+abbrev absent : ℕ → List (ℕ × ℕ) → Bool
+absent m [] = true
+absent m (l ∷ lines) = not (eqb (l .0) m) && absent m lines
+
+without-numbered : (m : ℕ) (table : List Sentence) → absent m (map numberIn table) ≡ true → Without m table
+without-numbered m [] e = tt
+without-numbered m (s ∷ table) e =
+    let h = decides-both _ _ (decides-not _ (decides-eq (numberOf (s .refusal)) m)) (((λ e. e), λ e. e)) .0 e in
+    ((λ same says. h .0 same), without-numbered m table (h .1))
+
+without-listed : (m count : ℕ) (s : ℕ → Sentence) → ((i : ℕ) → numberOf (s i .refusal) ≡ m → ⊥)
+    → Without m (listed count s)
 unfolding listed
-others-listed zero s n is ne = none
-others-listed (suc count) s n is ne = other n (is 0) ne (others-listed count (λ i. s (suc i)) n (λ i. is (suc i)) ne)
+without-listed m zero s ne = tt
+without-listed m (suc count) s ne = ((λ e h. ne 0 e), without-listed m count (λ i. s (suc i)) (λ i. ne (suc i)))
 
 pub demand-1-program : Demand1Program
-unfolding programOf rebuildSentences profileSentences bundleSentences numberOf
+unfolding programOf rebuildSentences profileSentences bundleSentences stripSentences numberOf
 demand-1-program input = record {
   column = λ e. column-out _ _ (answered _ e);
   line = λ q first. line-out _ q (demand-1-rebuild _ _ _ _ _ .refuses .given q .1 first);
-  never-five = λ first. not-first others BufferLength first refl;
+  never-five = λ first. not-held 5 (first-holds first) refl without;
 }
   where
-    -- 1 to 4, a column of the right length, 6 and 7, then 8 and 9
-    others : Others 5 (table input)
-    others =
-        other 1 refl (λ e. omega arith)
-        (other 2 refl (λ e. omega arith)
-        (other 3 refl (λ e. omega arith)
-        (other 4 refl (λ e. omega arith)
-        (fails (λ (m : length (lent input) ≢ wanted input .a * wanted input .s). m (length-replicate _ 0))
-        (other 6 refl (λ e. omega arith)
-        (other 7 refl (λ e. omega arith)
-        (others-append (others-listed _ _ 8 (λ i. refl) (λ e. omega arith))
-        (others-listed _ _ 9 (λ i. refl) (λ e. omega arith)))))))))
+    -- the lent column has the right length; no other line has the number 5
+    without-own : Without 5 (own input)
+    without-own = (
+      (λ e. absurd (omega arith)),
+      (
+        (λ e m. m (length-replicate _ 0)),
+        (
+          (λ e. absurd (omega arith)),
+          (
+            (λ e. absurd (omega arith)),
+            without-append 5 (listed _ _) (listed _ _) (without-listed 5 _ _ (λ i e. omega arith))
+                (without-listed 5 _ _ (λ i e. omega arith)),
+          ),
+        ),
+      ),
+    )
+
+    without : Without 5 (table input)
+    without =
+        without-append 5 (profileSentences (wanted input)) (own input)
+        (without-numbered 5 (profileSentences (wanted input)) refl) without-own

@@ -3,7 +3,7 @@
 use mathlib.Core.Path.{_≡_, sym, ap, subst, _∙_}
 use mathlib.Core.Logic.{_⊎_, inl, inr}
 use mathlib.Core.Bool.{false≢true}
-use mathlib.Core.List.{List}
+use mathlib.Core.List.{List, _++_}
 use Prim.Native.Nat.{ℕ, _+_, _-_, _≤_, _<_}
 use native.Mathlib.Omega.{arith}
 use lib.ListN.{length}
@@ -18,11 +18,22 @@ use Rattle.document.specs.declared.Refusal.the-variants.{OutOfRange, BufferLeng
 use Rattle.document.specs.declared.Surveyed.{Surveyed}
 use Rattle.document.specs.declared.Surveyed.the-variants.{Done, Open, Refused}
 use Rattle.document.specs.declared.Answer.the-variants as answers
-use Rattle.document.specs.Refusals.{answerNumber, answerValue}
-use Rattle.document.specs.Profile.{Accepted, profileOf}
+use Rattle.document.specs.Refusals.{answerNumber, answerValue, tried}
+use Rattle.document.specs.Profile.{Accepted, profileTests, profileOf}
 use Rattle.document.specs.Reading.{TwoData}
-use Rattle.document.specs.Survey.{firstIn, failsAt, lookedAt, foundFrom, resultOf, surveyOf, surveyAnswer}
+use Rattle.document.specs.Survey.{
+  firstIn,
+  failsAt,
+  lookedAt,
+  foundFrom,
+  resultOf,
+  surveyTests,
+  surveyWith,
+  surveyOf,
+  surveyAnswer,
+}
 use Rattle.document.proofs.Decides.{decides-le, decides-eq}
+use Rattle.document.proofs.Accepts.{one-list}
 use Rattle.document.proofs.Surveys.{
   First,
   first-found,
@@ -35,7 +46,7 @@ use Rattle.document.proofs.Surveys.{
   result-open,
   by-result,
 }
-use Rattle.demands.specs.Refusals.{FirstOf, here, later, surveySentences}
+use Rattle.demands.specs.Refusals.{Sentence, FirstOf, Decided, profileSentences, surveySentences}
 use Rattle.demands.specs.Survey.{
   NoneFails,
   Tells,
@@ -50,19 +61,23 @@ use Rattle.demands.specs.Survey.{
   SurveysJoin,
   SurveyDemands,
 }
-use Rattle.demands.proofs.Demand1.{
+use Rattle.demands.proofs.Tables.{
   answered,
   decided,
-  first-none,
-  first-later,
   first-or-none,
   tried-stops,
   tried-through,
-  accepted-later,
-  unrefused-accepted,
-  unrefused-later,
-  demand-1-survey,
+  Holds,
+  next,
+  by-name,
+  none-holds,
+  holds-right,
+  fails-append,
+  first-nowhere,
+  accepted-fails,
+  nowhere-accepted,
 }
+use Rattle.demands.proofs.Demand1.{demand-1-survey}
 use Rattle.demands.proofs.Demand2Reading.{read-refused, read-answered}
 
 -- ---- what a result says
@@ -109,35 +124,47 @@ record Allowed (p : Numbers) (start : ℕ) (x : List ℕ) : Type 0 where
 abbrev AlwaysRefused : Numbers → ℕ → List ℕ → Type 0
 AlwaysRefused p start x = (r : Refusal) × ((most : ℕ) → surveyOf p start most x ≡ (Refused r, x))
 
-allowed-result : (p : Numbers) (start most : ℕ) (x : List ℕ) → Allowed p start x
-    → surveyOf p start most x ≡ resultOf (profileOf p) start most x
-unfolding surveyOf surveySentences
-allowed-result p start most x A =
-    tried-through _ _ (demand-1-survey p start most x .decided)
-    (λ r first. first-none r
-    (first-later (λ m. m (A .room)) r
-    (first-later (λ m. omega arith) r (accepted-later p (A .profile) r first))))
+-- a survey with an accepted profile, by its own tests
+module _ (p : Numbers) (start : ℕ) (x : List ℕ) where
+  abbrev own : List Sentence
+  own = surveySentences (profileOf p) start x
 
-refused-or-allowed : (p : Numbers) (start : ℕ) (x : List ℕ) → AlwaysRefused p start x ⊎ Allowed p start x
-unfolding surveyOf surveySentences
-refused-or-allowed p start x = go (first-or-none (demand-1-survey p start 0 x .decided))
-  where
-    go : ((r : Refusal) × FirstOf (surveySentences p start x) r)
-        ⊎ ((r : Refusal) → FirstOf (surveySentences p start x) r → ⊥)
-        → AlwaysRefused p start x ⊎ Allowed p start x
-    go (inl (r, first)) = inl (r, λ most. tried-stops _ _ (demand-1-survey p start most x .decided) r first)
-    go (inr nowhere) =
-        inr (record {
-          profile = unrefused-accepted p _ nowhere;
-          within = within;
-          room = decided _ (decides-eq (length x) (p .k))
-              (λ n. unrefused-later p _ nowhere BufferLength (later (λ m. omega (arith, within)) (here n)));
-        })
-      where
-        within : start ≤ sets (p .n) (p .k)
-        within =
-            decided _ (decides-le start (sets (p .n) (p .k)))
-            (λ n. unrefused-later p _ nowhere OutOfRange (here (omega arith)))
+  survey-tried : (most : ℕ) → surveyOf p start most x
+      ≡ tried (profileTests p ++ surveyTests (profileOf p) start x) (λ r. (Refused r, x))
+      (resultOf (profileOf p) start most x)
+  unfolding surveyOf surveyWith
+  survey-tried most = one-list p (λ r. (Refused r, x)) (λ q. surveyTests q start x) (λ q. resultOf q start most x)
+
+  tests-decided : Decided (profileTests p ++ surveyTests (profileOf p) start x) (profileSentences p ++ own)
+  tests-decided = demand-1-survey p start 0 x .decided
+
+  allowed-result : (most : ℕ) → Allowed p start x → surveyOf p start most x ≡ resultOf (profileOf p) start most x
+  unfolding surveySentences
+  allowed-result most A =
+      survey-tried most
+      ∙ tried-through _ _ tests-decided
+      (first-nowhere _
+      (fails-append (profileSentences p) own (accepted-fails p (A .profile))
+      ((λ m. omega (arith, A .within)), ((λ m. m (A .room)), tt))))
+
+  refused-or-allowed : AlwaysRefused p start x ⊎ Allowed p start x
+  unfolding surveySentences
+  refused-or-allowed = go (first-or-none tests-decided)
+    where
+      go : ((r : Refusal) × FirstOf (profileSentences p ++ own) r)
+          ⊎ ((r : Refusal) → FirstOf (profileSentences p ++ own) r → ⊥)
+          → AlwaysRefused p start x ⊎ Allowed p start x
+      go (inl (r, first)) = inl (r, λ most. survey-tried most ∙ tried-stops _ _ tests-decided r first)
+      go (inr nowhere) =
+          inr (record {
+            profile = nowhere-accepted p own nowhere;
+            within = decided _ (decides-le start (sets (p .n) (p .k)))
+                (λ n. let m : sets (p .n) (p .k) < start = omega arith in refuted {r = OutOfRange} (search by-name));
+            room = decided _ (decides-eq (length x) (p .k)) (λ n. refuted {r = BufferLength} (search by-name));
+          })
+        where
+          refuted : {r : Refusal} → Holds own r → ⊥
+          refuted h = none-holds nowhere (holds-right (profileSentences p) h)
 
 -- ---- the demands
 -- A survey that is not refused says what holds of the sets.
@@ -153,7 +180,7 @@ survey-tells p start most x e = go (refused-or-allowed p start x)
         answered (answers.Refused r) told in
         absurd (let z : _≡_ {A = ℕ} 0 1 = cc in omega arith)
     go (inr A) =
-        rw (allowed-result p start most x A) (result-tells (profileOf p) (A .profile) start most x (A .within))
+        rw (allowed-result p start x most A) (result-tells (profileOf p) (A .profile) start most x (A .within))
 
 -- The failing sets are those on which readings are refused.
 fails-in-reading : FailsInReading
@@ -266,7 +293,7 @@ surveys-join p start most more x = go (refused-or-allowed p start x)
         → surveyOf p start (most + more) x ≡ joinedOutcome (surveyOf p start most x) (surveyOf p (start + most) more x)
     go (inl (r, refused)) = rw (refused (most + more), refused most)
     go (inr A) =
-        rw (allowed-result p start (most + more) x A, allowed-result p start most x A)
+        rw (allowed-result p start x (most + more) A, allowed-result p start x most A)
         (by-result (profileOf p) start most x
         (λ s. resultOf (profileOf p) start (most + more) x ≡ joinedOutcome s (surveyOf p (start + most) more x))
         (join-failing (profileOf p) start most more x (A .within))
@@ -276,7 +303,7 @@ surveys-join p start most more x = go (refused-or-allowed p start x)
         omega (arith, A .within) in
         let B : Allowed p (start + most) x =
         record { profile = A .profile; within = omega arith; room = A .room } in
-        rw (allowed-result p (start + most) more x B)
+        rw (allowed-result p (start + most) x more B)
         (join-open (profileOf p) start most more x (A .within) left h)))
 
 pub survey-demands : SurveyDemands

@@ -6,21 +6,23 @@
 -- recording input     : the recording
 -- bundle input        : the bundle that follows
 -- lent input          : the column that the program lends to the rebuild
--- table input         : the table of that rebuild
+-- own input           : the lines of that rebuild past those of the profile
+-- table input         : its table
 -- ProgramWrites input : the column where the rebuild is not refused, otherwise the line of the first refusal, never of 5
 -- Demand1Program      : so it is for all inputs
 -- Shown in proofs/Program.antt: demand-1-program.
 use mathlib.Core.Path.{_≡_}
-use mathlib.Core.List.{List}
+use mathlib.Core.List.{List, _++_}
 use Prim.Native.Nat.{ℕ, _*_}
 use lib.ListN.{drop, replicate}
 use Rattle.document.specs.declared.Numbers.{Numbers}
 use Rattle.document.specs.declared.Recording.{Recording}
 use Rattle.document.specs.declared.Refusal.{Refusal}
 use Rattle.document.specs.declared.Refusal.the-variants.{BufferLength}
+use Rattle.document.specs.Profile.{profileOf}
 use Rattle.document.specs.Rebuild.{rebuildOf}
 use Rattle.document.specs.Program.{programHead, wantedNumbers, wantedNode, wantedRecording, lineOf, programOf}
-use Rattle.demands.specs.Refusals.{Sentence, FirstOf, rebuildSentences}
+use Rattle.demands.specs.Refusals.{Sentence, FirstOf, profileSentences, rebuildSentences}
 use Rattle.demands.specs.Rebuild.{NotRefused}
 
 module _ (input : List ℕ) where
@@ -41,8 +43,11 @@ module _ (input : List ℕ) where
   abbrev pub lent : List ℕ
   lent = replicate (wanted .a * wanted .s) 0
 
+  abbrev pub own : List Sentence
+  own = rebuildSentences (profileOf wanted) (record { 0 = node }) recording bundle lent
+
   abbrev pub table : List Sentence
-  table = rebuildSentences wanted node recording bundle lent
+  table = profileSentences wanted ++ own
 
   pub record ProgramWrites : Type 1 where
     -- 'It writes the column's bytes'

@@ -7,24 +7,23 @@
 -- Decided tests table                 : the tests that a call makes decide the sentences of the table, line by line, each
 --                                       where those before it do not hold
 -- profileSentences p                  : the lines for a profile's numbers
--- encodeSentences p d x               : the table for encoding the data d into x
--- planSentences p f x                 : the table for planning the rebuild of node f into x
--- writeSentences p f x b              : the table for cutting a bundle from the array x, written into b
+-- Past those, for an accepted profile p:
+-- encodeSentences p d x               : the lines for encoding the data d into x
+-- planSentences p f x                 : for planning the rebuild of node f into x
+-- writeSentences p f x b              : for cutting a bundle from the array x, written into b
 -- Formed p f b                        : the bundle b has the length, the tags and the field lengths that are wanted
 -- Headed p f r b                      : its fields 01 and 02 have the content that is wanted
 -- placeRead p b i, scenarioRead p b i : the place and the scenario number of strip i in the bundle b
+-- stripSentences p f r b              : the lines for the strips of a bundle to read
 -- bundleSentences p f r b             : the lines for a bundle to read, where the profile p, the lost node f and the
 --                                       recording r are wanted
--- rebuildSentences p f r b y          : the table for rebuilding node f from the bundle b into y
--- readSentences p nodes x y           : the table for reading back the columns x of the named nodes into y
--- surveySentences p start x           : the table for a survey from a position on, into x
--- Numbered table numbers indices      : the table's lines have these numbers, and come with these indices
--- Demand1Encode p d x                 : encoding refuses as its table says, which has document 01's numbers
--- Demand1Plan p f x                   : so does planning
--- Demand1Write p f r x b              : so does the writing of a bundle
--- Demand1Rebuild p f r b y            : so does a rebuild
--- Demand1Read p nodes x y             : so does reading back
--- Demand1Survey p start most x        : so does a survey
+-- rebuildSentences p f r b y          : for rebuilding node f from the bundle b into y
+-- readSentences p nodes x y           : for reading back the columns x of the named nodes into y
+-- surveySentences p start x           : for a survey from a position on, into x
+-- Numbered table lines                : the table's lines have these numbers, and come with these indices
+-- Demand1Of tests table lines before outcome : a call with these tests and this outcome refuses as its table says, which
+--                                       has document 01's numbers
+-- Demand1Encode p d x, ..             : so it is of each call
 -- Demand1                             : the six, for all numbers and bytes. Shown in proofs/Demand1.antt: demand-1
 --
 -- The statements here and in the other files are about definitions. An entry point's promise, without any `requires`, is
@@ -63,7 +62,7 @@ use Rattle.document.specs.declared.Refusal.the-variants.{
 use Rattle.document.specs.declared.Answer.{Answer}
 use Rattle.document.specs.declared.Answer.the-variants.{Refused}
 use Rattle.document.specs.Refusals.{numberOf, indexOf, Test, Decides}
-use Rattle.document.specs.Profile.{ShapeAccepted, profileOf}
+use Rattle.document.specs.Profile.{ShapeAccepted, profileTests, profileOf}
 use Rattle.document.specs.Places.{place}
 use Rattle.document.specs.Encoding.{encodeTests, encodeOf}
 use Rattle.document.specs.Plan.{planned, plannedAt, planTests, planOf}
@@ -105,38 +104,30 @@ profileSentences p =
     ∷ []
 
 -- 5: 'a lent buffer .. has the wrong length': data have kAS bytes, an array nAS.
-unfoldable pub encodeSentences : Numbers → List ℕ → List ℕ → List Sentence
+unfoldable pub encodeSentences : Profile → List ℕ → List ℕ → List Sentence
 encodeSentences p d x =
-    profileSentences p
-    ++ (record {
+    record {
       refusal = BufferLength;
       says = (length d ≡ p .k * p .a * p .s) × (length x ≡ p .n * p .a * p .s) → ⊥;
     }
-    ∷ [])
+    ∷ []
 
 -- 4: 'lost node not below n'. 5: 'a lent buffer .. has the wrong length (plan: too short)', two bytes a place.
-unfoldable pub planSentences : Numbers → ℕ → List ℕ → List Sentence
+unfoldable pub planSentences : Profile → Node → List ℕ → List Sentence
 planSentences p f x =
-    profileSentences p
-    ++ (record { refusal = OutOfRange; says = f < p .n → ⊥ }
-    ∷ record {
-      refusal = BufferLength;
-      says = length x < 2 * length (planned (profileOf p) (record { 0 = f }));
-    }
-    ∷ [])
+    record { refusal = OutOfRange; says = f .0 < p .n → ⊥ }
+    ∷ record { refusal = BufferLength; says = length x < 2 * length (planned p f) }
+    ∷ []
 
 -- 5: 'a lent buffer .. has the wrong length': a stored array has nAS bytes, a bundle 17 + P(9+S).
-unfoldable pub writeSentences : Numbers → ℕ → List ℕ → List ℕ → List Sentence
+unfoldable pub writeSentences : Profile → Node → List ℕ → List ℕ → List Sentence
 writeSentences p f x b =
-    profileSentences p
-    ++ (record { refusal = OutOfRange; says = f < p .n → ⊥ }
+    record { refusal = OutOfRange; says = f .0 < p .n → ⊥ }
     ∷ record {
       refusal = BufferLength;
-      says = (length x ≡ p .n * p .a * p .s)
-          × (length b ≡ 17 + length (planned (profileOf p) (record { 0 = f })) * (9 + p .s))
-          → ⊥;
+      says = (length x ≡ p .n * p .a * p .s) × (length b ≡ 17 + length (planned p f) * (9 + p .s)) → ⊥;
     }
-    ∷ [])
+    ∷ []
 
 -- 'bundle's total length, tags or field lengths': a field opens with a one-byte tag and a two-byte length.
 pub record Formed (p : Profile) (f : Node) (b : List ℕ) : Type 0 where
@@ -163,90 +154,104 @@ placeRead p b i = place (getD b (17 + i * (9 + p .s) + 3) 0) (getD b (17 + i * (
 abbrev pub scenarioRead : Profile → List ℕ → ℕ → List ℕ
 scenarioRead p b i = slice b (17 + i * (9 + p .s) + 5) 4
 
--- 6: '.. differ from those of the wanted profile and node'. 7: '.. differs from what is wanted'. 8: 'some strip's place
--- differs from the plan's', with its index. 9: 'some strip's scenario differs from the wanted one', with its index.
--- 'The lowest number that applies is the answer, also where a stale strip stands before a misplaced one.'
+-- 8: 'some strip's place differs from the plan's', with its index. 9: 'some strip's scenario differs from the wanted one',
+-- with its index. 'The lowest number that applies is the answer, also where a stale strip stands before a misplaced one.'
+unfoldable pub stripSentences : Profile → Node → Recording → List ℕ → List Sentence
+stripSentences p f r b =
+    listed (length (planned p f)) (λ i. record { refusal = Misplaced i; says = placeRead p b i ≢ plannedAt p f i })
+    ++ listed (length (planned p f))
+    (λ i. record { refusal = Stale i; says = scenarioRead p b i ≢ fourBytes (r .scenario) })
+
+-- 6: '.. differ from those of the wanted profile and node'. 7: '.. differs from what is wanted'.
 unfoldable pub bundleSentences : Profile → Node → Recording → List ℕ → List Sentence
 bundleSentences p f r b =
     record { refusal = BundleForm; says = Formed p f b → ⊥ }
     ∷ record { refusal = BundleHead; says = Headed p f r b → ⊥ }
-    ∷ (listed (length (planned p f)) (λ i. record { refusal = Misplaced i; says = placeRead p b i ≢ plannedAt p f i })
-    ++ listed (length (planned p f))
-    (λ i. record { refusal = Stale i; says = scenarioRead p b i ≢ fourBytes (r .scenario) }))
+    ∷ stripSentences p f r b
 
 -- 5: a column has AS bytes; 'other than the bundle to read'.
-unfoldable pub rebuildSentences : Numbers → ℕ → Recording → List ℕ → List ℕ → List Sentence
+unfoldable pub rebuildSentences : Profile → Node → Recording → List ℕ → List ℕ → List Sentence
 rebuildSentences p f r b y =
-    profileSentences p
-    ++ (record { refusal = OutOfRange; says = f < p .n → ⊥ }
+    record { refusal = OutOfRange; says = f .0 < p .n → ⊥ }
     ∷ record { refusal = BufferLength; says = length y ≢ p .a * p .s }
-    ∷ bundleSentences (profileOf p) (record { 0 = f }) r b)
+    ∷ bundleSentences p f r b
 
 -- 4: 'node list not k strictly rising numbers below n'. 5: columns and data have kAS bytes each. 10: 'some two different
 -- data give equal columns on these nodes'.
-unfoldable pub readSentences : Numbers → List ℕ → List ℕ → List ℕ → List Sentence
+unfoldable pub readSentences : Profile → List ℕ → List ℕ → List ℕ → List Sentence
 readSentences p nodes x y =
-    profileSentences p
-    ++ (record { refusal = OutOfRange; says = Rising (p .n) (p .k) nodes → ⊥ }
+    record { refusal = OutOfRange; says = Rising (p .n) (p .k) nodes → ⊥ }
     ∷ record {
       refusal = BufferLength;
       says = (length x ≡ p .k * p .a * p .s) × (length y ≡ p .k * p .a * p .s) → ⊥;
     }
-    ∷ record { refusal = Ambiguous; says = TwoData (profileOf p) nodes }
-    ∷ [])
+    ∷ record { refusal = Ambiguous; says = TwoData p nodes }
+    ∷ []
 
 -- 4: 'survey start above the number of sets'. 5: 'a lent buffer of k bytes'.
-unfoldable pub surveySentences : Numbers → ℕ → List ℕ → List Sentence
+unfoldable pub surveySentences : Profile → ℕ → List ℕ → List Sentence
 surveySentences p start x =
-    profileSentences p
-    ++ (record { refusal = OutOfRange; says = sets (p .n) (p .k) < start }
+    record { refusal = OutOfRange; says = sets (p .n) (p .k) < start }
     ∷ record { refusal = BufferLength; says = length x ≢ p .k }
-    ∷ [])
+    ∷ []
 
--- 'by number': the lines of a table have these numbers; '8 and 9 come with the index .., the others with 0'.
-abbrev pub Numbered : List Sentence → List ℕ → List ℕ → Type 0
-Numbered table numbers indices =
-    (map (λ s. numberOf (s .refusal)) table ≡ numbers) × (map (λ s. indexOf (s .refusal)) table ≡ indices)
+-- 'by number': the lines of a table have these numbers, each with the index that it comes with: '8 and 9 come with the
+-- index .., the others with 0'.
+abbrev pub numberIn : Sentence → ℕ × ℕ
+numberIn s = (numberOf (s .refusal), indexOf (s .refusal))
 
--- Demand 1 for encoding, whatever the numbers and the bytes.
-pub record Demand1Encode (p : Numbers) (d x : List ℕ) : Type 1 where
-  pub numbered : Numbered (encodeSentences p d x) (1 ∷ 2 ∷ 3 ∷ 5 ∷ []) (0 ∷ 0 ∷ 0 ∷ 0 ∷ [])
-  pub decided : Decided (encodeTests p d x) (encodeSentences p d x)
-  pub refuses : RefusesExactly (encodeSentences p d x) x (encodeOf p d x)
+abbrev pub Numbered : List Sentence → List (ℕ × ℕ) → Type 0
+Numbered table lines = map numberIn table ≡ lines
 
--- Demand 1 for planning.
-pub record Demand1Plan (p : Numbers) (f : ℕ) (x : List ℕ) : Type 1 where
-  pub numbered : Numbered (planSentences p f x) (1 ∷ 2 ∷ 3 ∷ 4 ∷ 5 ∷ []) (0 ∷ 0 ∷ 0 ∷ 0 ∷ 0 ∷ [])
-  pub decided : Decided (planTests p f x) (planSentences p f x)
-  pub refuses : RefusesExactly (planSentences p f x) x (planOf p f x)
+-- Demand 1 for one call.
+pub record Demand1Of {X : Type 0} (tests : List Test) (table : List Sentence) (lines : List (ℕ × ℕ)) (before : X)
+    (outcome : Answer × X) : Type 1 where
+  pub numbered : Numbered table lines
+  pub decided : Decided tests table
+  pub refuses : RefusesExactly table before outcome
 
--- Demand 1 for the writing of a bundle.
-pub record Demand1Write (p : Numbers) (f : ℕ) (r : Recording) (x b : List ℕ) : Type 1 where
-  pub numbered : Numbered (writeSentences p f x b) (1 ∷ 2 ∷ 3 ∷ 4 ∷ 5 ∷ []) (0 ∷ 0 ∷ 0 ∷ 0 ∷ 0 ∷ [])
-  pub decided : Decided (writeTests p f x b) (writeSentences p f x b)
-  pub refuses : RefusesExactly (writeSentences p f x b) b (writeOf p f r x b)
+abbrev pub profileLines : List (ℕ × ℕ)
+profileLines = (1, 0) ∷ (2, 0) ∷ (3, 0) ∷ []
 
--- Demand 1 for a rebuild: one line for each strip under 8, from index 0, and then one for each strip under 9.
-pub record Demand1Rebuild (p : Numbers) (f : ℕ) (r : Recording) (b y : List ℕ) : Type 1 where
-  pub numbered : let P : ℕ = length (planned (profileOf p) (record { 0 = f })) in
-      Numbered (rebuildSentences p f r b y)
-      (1 ∷ 2 ∷ 3 ∷ 4 ∷ 5 ∷ 6 ∷ 7 ∷ (listed P (λ i. 8) ++ listed P (λ i. 9)))
-      (0 ∷ 0 ∷ 0 ∷ 0 ∷ 0 ∷ 0 ∷ 0 ∷ (listed P (λ i. i) ++ listed P (λ i. i)))
-  pub decided : Decided (rebuildTests p f r b y) (rebuildSentences p f r b y)
-  pub refuses : RefusesExactly (rebuildSentences p f r b y) y (rebuildOf p f r b y)
+-- For a call that is given a profile's numbers p: its tests, its table and its lines past those of the profile.
+abbrev pub Demand1For : {X : Type 0} → Numbers → (Profile → List Test) → (Profile → List Sentence) → List (ℕ × ℕ)
+    → X → Answer × X → Type 1
+Demand1For p tests table lines before outcome =
+    Demand1Of (profileTests p ++ tests (profileOf p)) (profileSentences p ++ table (profileOf p)) (profileLines ++ lines)
+    before outcome
 
--- Demand 1 for reading back.
-pub record Demand1Read (p : Numbers) (nodes x y : List ℕ) : Type 1 where
-  pub numbered : Numbered (readSentences p nodes x y) (1 ∷ 2 ∷ 3 ∷ 4 ∷ 5 ∷ 10 ∷ []) (0 ∷ 0 ∷ 0 ∷ 0 ∷ 0 ∷ 0 ∷ [])
-  pub decided : Decided (readTests p nodes x y) (readSentences p nodes x y)
-  pub refuses : RefusesExactly (readSentences p nodes x y) y (readOf p nodes x y)
+abbrev pub Demand1Encode : Numbers → List ℕ → List ℕ → Type 1
+Demand1Encode p d x =
+    Demand1For p (λ q. encodeTests q d x) (λ q. encodeSentences q d x) ((5, 0) ∷ []) x (encodeOf p d x)
 
--- Demand 1 for a survey, whose answer is told as that of any call: refused or not.
-pub record Demand1Survey (p : Numbers) (start most : ℕ) (x : List ℕ) : Type 1 where
-  pub numbered : Numbered (surveySentences p start x) (1 ∷ 2 ∷ 3 ∷ 4 ∷ 5 ∷ []) (0 ∷ 0 ∷ 0 ∷ 0 ∷ 0 ∷ [])
-  pub decided : Decided (surveyTests p start x) (surveySentences p start x)
-  pub refuses : RefusesExactly (surveySentences p start x) x
-      (surveyAnswer (surveyOf p start most x .0), surveyOf p start most x .1)
+abbrev pub Demand1Plan : Numbers → ℕ → List ℕ → Type 1
+Demand1Plan p f x =
+    let lost : Node = record { 0 = f } in
+    Demand1For p (λ q. planTests q lost x) (λ q. planSentences q lost x) ((4, 0) ∷ (5, 0) ∷ []) x (planOf p f x)
+
+abbrev pub Demand1Write : Numbers → ℕ → Recording → List ℕ → List ℕ → Type 1
+Demand1Write p f r x b =
+    let lost : Node = record { 0 = f } in
+    Demand1For p (λ q. writeTests q lost x b) (λ q. writeSentences q lost x b) ((4, 0) ∷ (5, 0) ∷ []) b (writeOf p f r x b)
+
+-- One line for each strip under 8, from index 0, and then one for each strip under 9.
+abbrev pub Demand1Rebuild : Numbers → ℕ → Recording → List ℕ → List ℕ → Type 1
+Demand1Rebuild p f r b y =
+    let lost : Node = record { 0 = f } in
+    let P : ℕ = length (planned (profileOf p) lost) in
+    Demand1For p (λ q. rebuildTests q lost r b y) (λ q. rebuildSentences q lost r b y)
+    ((4, 0) ∷ (5, 0) ∷ (6, 0) ∷ (7, 0) ∷ (listed P (λ i. (8, i)) ++ listed P (λ i. (9, i)))) y (rebuildOf p f r b y)
+
+abbrev pub Demand1Read : Numbers → List ℕ → List ℕ → List ℕ → Type 1
+Demand1Read p nodes x y =
+    Demand1For p (λ q. readTests q nodes x y) (λ q. readSentences q nodes x y) ((4, 0) ∷ (5, 0) ∷ (10, 0) ∷ []) y
+    (readOf p nodes x y)
+
+-- The answer of a survey is told as that of any call: refused or not.
+abbrev pub Demand1Survey : Numbers → ℕ → ℕ → List ℕ → Type 1
+Demand1Survey p start most x =
+    Demand1For p (λ q. surveyTests q start x) (λ q. surveySentences q start x) ((4, 0) ∷ (5, 0) ∷ []) x
+    (surveyAnswer (surveyOf p start most x .0), surveyOf p start most x .1)
 
 -- 'Any bytes, any numbers, any time'
 pub record Demand1 : Type 1 where

@@ -1,14 +1,15 @@
 -- The tests of a profile decide whether its numbers are accepted.
-use mathlib.Core.Path.{_≡_, refl, ap}
-use mathlib.Core.Bool.{Bool, true, false, not, false≢true}
-use mathlib.Core.List.{List, [], _∷_, _++_}
+use mathlib.Core.Path.{_≡_, refl, sym, ap, subst, _∙_}
+use mathlib.Core.Bool.{Bool, true, false, false≢true}
+use mathlib.Core.List.{List, _++_}
 use Prim.Native.Nat.{ℕ, _-_, _%_, _≤_}
-use native.Mathlib.Omega.{arith}
 use lib.Dec.{leb}
+use borrow.Author.Tests.{not-false}
 use Rattle.document.specs.declared.Numbers.{Numbers}
 use Rattle.document.specs.declared.Profile.{Profile}
 use Rattle.document.specs.declared.Refusal.{Refusal}
 use Rattle.document.specs.declared.Refusal.the-variants.{Shape, Constant, StripLength}
+use Rattle.document.specs.declared.Checked.{Checked}
 use Rattle.document.specs.declared.Checked.the-variants.{Passed, Rejected}
 use Rattle.document.specs.Refusals.{Test, tried, Decides}
 use Rattle.document.specs.Profile.{
@@ -22,9 +23,18 @@ use Rattle.document.specs.Profile.{
   stripAccepted,
   profileTests,
   profileOf,
+  onAccepted,
   checkedOf,
 }
-use Rattle.document.proofs.Decides.{decides-le, decides-lt, decides-eq, decides-both, decides-same, decides-false}
+use Rattle.document.proofs.Decides.{
+  decides-le,
+  decides-lt,
+  decides-eq,
+  decides-both,
+  decides-same,
+  decides-false,
+}
+use Rattle.document.proofs.Tried.{Failed, tried-map, tried-append, tried-by, tried-same}
 
 pub decides-shape : (n k A : ℕ) → Decides (shapeAccepted n k A) (ShapeAccepted n k A)
 unfolding shapeAccepted
@@ -69,94 +79,82 @@ shape-left n k A h = go (leb n maxNodes) (decides-le n maxNodes)
 -- the outcome for given numbers, by the tests that led to it
 module _ (p : Numbers) where
   pub shape-refused : shapeAccepted (p .n) (p .k) (p .a) ≡ false → checkedOf p ≡ Rejected Shape
-  unfolding checkedOf profileTests tried
+  unfolding checkedOf onAccepted profileTests tried
   shape-refused e = simp e
 
   module _ (shape : shapeAccepted (p .n) (p .k) (p .a) ≡ true) where
     pub constant-refused : constantAccepted (p .t) ≡ false → checkedOf p ≡ Rejected Constant
-    unfolding checkedOf profileTests tried
+    unfolding checkedOf onAccepted profileTests tried
     constant-refused e = simp (shape, e)
 
     module _ (constant : constantAccepted (p .t) ≡ true) where
       pub strip-refused : stripAccepted (p .s) ≡ false → checkedOf p ≡ Rejected StripLength
-      unfolding checkedOf profileTests tried
+      unfolding checkedOf onAccepted profileTests tried
       strip-refused e = simp (shape, constant, e)
 
       pub none-refused : stripAccepted (p .s) ≡ true → checkedOf p ≡ Passed (profileOf p)
-      unfolding checkedOf profileTests tried
+      unfolding checkedOf onAccepted profileTests tried
       none-refused e = simp (shape, constant, e)
 
--- ---- for the calls that try a profile's refusals first
--- The tests of a profile, by their outcomes.
-abbrev outcomes : Bool → Bool → Bool → List Test
-outcomes shape constant strip =
-    record { refusal = Shape; holds = not shape }
-    ∷ record { refusal = Constant; holds = not constant }
-    ∷ record { refusal = StripLength; holds = not strip }
-    ∷ []
+-- ---- the head of a call
+-- Numbers that none of the tests refuses are an accepted profile.
+pub failed-accepted : (p : Numbers) → Failed (profileTests p) → Accepted (profileOf p)
+unfolding profileTests
+failed-accepted p (shape, (constant, (strip, _))) =
+    let t = decides-constant (p .t) .0 (not-false _ constant) in
+    let s = decides-strip (p .s) .0 (not-false _ strip) in record {
+      shape = decides-shape (p .n) (p .k) (p .a) .0 (not-false _ shape);
+      above-one = t .0;
+      one-byte = t .1;
+      some-bytes = s .0;
+      short = s .1;
+    }
+
+-- what a call makes of the outcome of `Profile::new`
+abbrev decided : {X : Type 0} → (Refusal → X) → (Profile → X) → Checked → X
+decided refuse go (Passed q) = go q
+decided refuse go (Rejected r) = refuse r
+
+abbrev Sound : Checked → Type 0
+Sound (Passed q) = Accepted q
+Sound (Rejected r) = Unit
 
 module _ (p : Numbers) where
-  -- An accepted profile has the numbers handed in.
-  pub accepted : (q : Profile) → checkedOf p ≡ Passed q → (q ≡ profileOf p) × Accepted q
-  unfolding checkedOf profileTests tried
-  accepted q e =
-      go (shapeAccepted (p .n) (p .k) (p .a)) (decides-shape (p .n) (p .k) (p .a)) (constantAccepted (p .t))
-      (decides-constant (p .t)) (stripAccepted (p .s)) (decides-strip (p .s)) e
-    where
-      differ : (r : Refusal) → Rejected r ≡ Passed q → ⊥
-      differ r d = let z : _≡_ {A = ℕ} 0 1 = cc in omega arith
+  sound : Sound (checkedOf p)
+  unfolding checkedOf onAccepted
+  sound = tried-by Sound (profileTests p) Rejected (Passed (profileOf p)) (λ r. tt) (failed-accepted p)
 
-      same : Passed (profileOf p) ≡ Passed q → q ≡ profileOf p
-      same d = cc
+  -- A profile that `Profile::new` hands out is accepted.
+  pub accepted : {q : Profile} → checkedOf p ≡ Passed q → Accepted q
+  accepted e = subst Sound e sound
 
-      go : (shape : Bool) → Decides shape (ShapeAccepted (p .n) (p .k) (p .a))
-          → (constant : Bool) → Decides constant ((2 ≤ p .t) × (p .t ≤ 255))
-          → (strip : Bool) → Decides strip ((1 ≤ p .s) × (p .s ≤ maxStrip))
-          → tried (outcomes shape constant strip) Rejected (Passed (profileOf p)) ≡ Passed q
-          → (q ≡ profileOf p) × Accepted q
-      go false A b B c C d = absurd (differ Shape d)
-      go true A false B c C d = absurd (differ Constant d)
-      go true A true B false C d = absurd (differ StripLength d)
-      go true A true B true C d =
-          let e : q ≡ profileOf p = same d in (
-            e,
-            rw e (record {
-              shape = A .0 refl;
-              above-one = B .0 refl .0;
-              one-byte = B .0 refl .1;
-              some-bytes = C .0 refl .0;
-              short = C .0 refl .1;
-            }),
-          )
+  -- A call that goes by the outcome of `Profile::new` tries a profile's refusals first.
+  module _ {X : Type 0} (refuse : Refusal → X) (go : Profile → X) where
+    head : decided refuse go (checkedOf p) ≡ onAccepted p refuse go
+    unfolding checkedOf onAccepted
+    head = tried-map (decided refuse go) (profileTests p) Rejected (Passed (profileOf p))
 
-  -- A call's further tests are tried where the profile is accepted, and only there.
-  module _ {X : Type 0} (tests : List Test) (refuse : Refusal → X) (x : X) where
-    pub tried-rejected : (r : Refusal) → checkedOf p ≡ Rejected r → tried (profileTests p ++ tests) refuse x ≡ refuse r
-    unfolding checkedOf profileTests tried
-    tried-rejected r e =
-        go (shapeAccepted (p .n) (p .k) (p .a)) (constantAccepted (p .t)) (stripAccepted (p .s)) e
-      where
-        go : (shape constant strip : Bool)
-            → tried (outcomes shape constant strip) Rejected (Passed (profileOf p)) ≡ Rejected r
-            → tried (outcomes shape constant strip ++ tests) refuse x ≡ refuse r
-        go false b c d = let s : Shape ≡ r = cc in ap refuse s
-        go true false c d = let s : Constant ≡ r = cc in ap refuse s
-        go true true false d = let s : StripLength ≡ r = cc in ap refuse s
-        go true true true d = absurd (let z : _≡_ {A = ℕ} 0 1 = cc in omega arith)
+    pub rejected : {r : Refusal} → checkedOf p ≡ Rejected r → refuse r ≡ onAccepted p refuse go
+    rejected e = sym (ap (decided refuse go) e) ∙ head
 
-    pub tried-accepted : (q : Profile) → checkedOf p ≡ Passed q
-        → tried (profileTests p ++ tests) refuse x ≡ tried tests refuse x
-    unfolding checkedOf profileTests tried
-    tried-accepted q e =
-        go (shapeAccepted (p .n) (p .k) (p .a)) (constantAccepted (p .t)) (stripAccepted (p .s)) e
-      where
-        differ : (r : Refusal) → Rejected r ≡ Passed q → ⊥
-        differ r d = let z : _≡_ {A = ℕ} 0 1 = cc in omega arith
+    pub passed : {q : Profile} → checkedOf p ≡ Passed q → go q ≡ onAccepted p refuse go
+    passed e = sym (ap (decided refuse go) e) ∙ head
 
-        go : (shape constant strip : Bool)
-            → tried (outcomes shape constant strip) Rejected (Passed (profileOf p)) ≡ Passed q
-            → tried (outcomes shape constant strip ++ tests) refuse x ≡ tried tests refuse x
-        go false b c d = absurd (differ Shape d)
-        go true false c d = absurd (differ Constant d)
-        go true true false d = absurd (differ StripLength d)
-        go true true true d = refl
+-- Two calls that begin alike are alike if they are with an accepted profile.
+pub on-accepted-same : {X : Type 0} (p : Numbers) (refuse : Refusal → X) (f g : Profile → X)
+    → (Accepted (profileOf p) → f (profileOf p) ≡ g (profileOf p)) → onAccepted p refuse f ≡ onAccepted p refuse g
+unfolding onAccepted
+on-accepted-same p refuse f g same = tried-same (profileTests p) refuse _ _ (λ h. same (failed-accepted p h))
+
+-- A function of what a call gives.
+pub on-accepted-map : {X Y : Type 0} (g : X → Y) (p : Numbers) (refuse : Refusal → X) (go : Profile → X)
+    → g (onAccepted p refuse go) ≡ onAccepted p (λ r. g (refuse r)) (λ q. g (go q))
+unfolding onAccepted
+on-accepted-map g p refuse go = tried-map g (profileTests p) refuse (go (profileOf p))
+
+-- A call that goes on with tests of its own tries all of them in a row.
+pub one-list : {X : Type 0} (p : Numbers) (refuse : Refusal → X) (tests : Profile → List Test) (x : Profile → X)
+    → onAccepted p refuse (λ q. tried (tests q) refuse (x q))
+    ≡ tried (profileTests p ++ tests (profileOf p)) refuse (x (profileOf p))
+unfolding onAccepted
+one-list p refuse tests x = sym (tried-append (profileTests p) (tests (profileOf p)) refuse (x (profileOf p)))

@@ -94,3 +94,48 @@ tried-map g (test ∷ tests) refuse x = go (test .holds) (tried-map g tests refu
         ≡ tried (record { refusal = test .refusal; holds = b } ∷ tests) (λ r. g (refuse r)) (g x)
     go true h = refl
     go false h = h
+
+-- tests that are tried one after the other, as one list or as two
+pub tried-append : {X : Type 0} (a b : List Test) (refuse : Refusal → X) (x : X)
+    → tried (a ++ b) refuse x ≡ tried a refuse (tried b refuse x)
+unfolding tried
+tried-append [] b refuse x = refl
+tried-append (test ∷ a) b refuse x = go (test .holds) (tried-append a b refuse x)
+  where
+    go : (c : Bool) → tried (a ++ b) refuse x ≡ tried a refuse (tried b refuse x)
+        → tried (record { refusal = test .refusal; holds = c } ∷ (a ++ b)) refuse x
+        ≡ tried (record { refusal = test .refusal; holds = c } ∷ a) refuse (tried b refuse x)
+    go true h = refl
+    go false h = h
+
+-- no test of the list holds
+abbrev pub Failed : List Test → Type 0
+Failed [] = Unit
+Failed (test ∷ tests) = (test .holds ≡ false) × Failed tests
+
+-- what holds of each refusal, and of the rest where no test holds
+pub tried-by : {X : Type 0} (R : X → Type 0) (tests : List Test) (refuse : Refusal → X) (x : X)
+    → ((r : Refusal) → R (refuse r)) → (Failed tests → R x) → R (tried tests refuse x)
+unfolding tried
+tried-by R [] refuse x refused rest = rest tt
+tried-by R (test ∷ tests) refuse x refused rest =
+    go (test .holds) refl (λ e. tried-by R tests refuse x refused (λ f. rest (e, f)))
+  where
+    go : (b : Bool) → test .holds ≡ b → (test .holds ≡ false → R (tried tests refuse x))
+        → R (tried (record { refusal = test .refusal; holds = b } ∷ tests) refuse x)
+    go true e h = refused (test .refusal)
+    go false e h = h e
+
+-- calls with the same tests are alike if they are where no test holds
+pub tried-same : {X : Type 0} (tests : List Test) (refuse : Refusal → X) (x y : X) → (Failed tests → x ≡ y)
+    → tried tests refuse x ≡ tried tests refuse y
+unfolding tried
+tried-same [] refuse x y same = same tt
+tried-same (test ∷ tests) refuse x y same =
+    go (test .holds) refl (λ e. tried-same tests refuse x y (λ f. same (e, f)))
+  where
+    go : (b : Bool) → test .holds ≡ b → (test .holds ≡ false → tried tests refuse x ≡ tried tests refuse y)
+        → tried (record { refusal = test .refusal; holds = b } ∷ tests) refuse x
+        ≡ tried (record { refusal = test .refusal; holds = b } ∷ tests) refuse y
+    go true e h = refl
+    go false e h = h e

@@ -22,23 +22,24 @@ use Rattle.document.specs.declared.Refusal.{Refusal}
 use Rattle.document.specs.declared.Surveyed.{Surveyed}
 use Rattle.document.specs.declared.Surveyed.the-variants as surveys
 use Rattle.document.specs.Refusals.{Test, tried, indexOf, answerValue}
-use Rattle.document.specs.Profile.{maxStrip, Accepted, profileTests, profileOf}
-use Rattle.document.specs.Encoding.{encodeTests, encodeOf}
-use Rattle.document.specs.Plan.{planned, maxPlaces, planTests, planOf}
+use Rattle.document.specs.Profile.{maxStrip, Accepted, profileTests, profileOf, onAccepted}
+use Rattle.document.specs.Encoding.{encodeTests, encodeWith, encodeOf}
+use Rattle.document.specs.Plan.{planned, maxPlaces, planTests, planWith, planOf}
 use Rattle.document.specs.Bundle.{
   stripFieldLength,
   bundleLength,
   longestBundle,
   bundleOf,
   writeTests,
+  writeWith,
   writeOf,
   bundleTests,
 }
-use Rattle.document.specs.Rebuild.{rebuildTests, rebuildOf}
-use Rattle.document.specs.Reading.{readTests, readOf}
-use Rattle.document.specs.Survey.{resultOf, surveyTests, surveyOf, positionIn, lookedIn}
+use Rattle.document.specs.Rebuild.{rebuildTests, rebuildWith, rebuildOf}
+use Rattle.document.specs.Reading.{readTests, readWith, readOf}
+use Rattle.document.specs.Survey.{resultOf, surveyTests, surveyWith, surveyOf, positionIn, lookedIn}
 use Rattle.document.proofs.Decides.{decides-eq, decides-both}
-use Rattle.document.proofs.Accepts.{none-refused, accepted}
+use Rattle.document.proofs.Accepts.{failed-accepted}
 use Rattle.document.proofs.Price.{few-places}
 use Rattle.document.proofs.Bundle.{bundle-length}
 use Rattle.document.proofs.Surveys.{by-result}
@@ -94,33 +95,43 @@ pub record Counted (answer : Surveyed) : Type 0 where
   pub looked : lookedIn answer ≤ 2704156
 
 module _ (p : Numbers) where
-  -- the tests of a profile, before others that may count on it
-  small-profile : {most : ℕ} {Q : Type 0} {tests : List Test} → (Accepted (profileOf p) → Small most Q tests)
-      → Small most Q (profileTests p ++ tests)
-  unfolding profileTests indexOf
-  small-profile rest =
-      next zero-le (λ shape. next zero-le (λ constant. next zero-le (λ strip.
-      rest (accepted p (profileOf p)
-      (none-refused p (not-false _ shape) (not-false _ constant) (not-false _ strip)) .1))))
+  -- a profile's refusals come with 0; the rest of a call may count on an accepted profile
+  by-profile : {X : Type 0} (R : X → Type 0) (refuse : Refusal → X) (go : Profile → X)
+      → ((r : Refusal) → indexOf r ≤ 0 → R (refuse r)) → (Accepted (profileOf p) → R (go (profileOf p)))
+      → R (onAccepted p refuse go)
+  unfolding onAccepted profileTests indexOf
+  by-profile R refuse go f g =
+      tried-small R refuse _ f (λ h. h)
+      (next zero-le (λ shape. next zero-le (λ constant. next zero-le (λ strip.
+      done (g (failed-accepted p (shape, (constant, (strip, tt)))))))))
+
+  value-by : {X : Type 0} (x : X) (go : Profile → Answer × X) {most : ℕ}
+      → (Accepted (profileOf p) → answerValue (go (profileOf p) .0) ≤ most)
+      → answerValue (onAccepted p (λ r. (Refused r, x)) go .0) ≤ most
+  unfolding answerValue
+  value-by {X} x go {most} =
+      by-profile (λ (o : Answer × X). answerValue (o .0) ≤ most) (λ r. (Refused r, x)) go (λ r h. omega arith)
 
   pub encode-value : (d x : List ℕ) → answerValue (encodeOf p d x .0) ≤ 0
-  unfolding encodeOf encodeTests indexOf
-  encode-value d x = value-small x _ 0 (small-profile (λ acc. next zero-le (λ e. done zero-le)))
+  unfolding encodeOf encodeWith encodeTests indexOf
+  encode-value d x = value-by x _ (λ acc. value-small x _ 0 (next zero-le (λ e. done zero-le)))
 
   pub read-value : (nodes x y : List ℕ) → answerValue (readOf p nodes x y .0) ≤ 0
-  unfolding readOf readTests indexOf
+  unfolding readOf readWith readTests indexOf
   read-value nodes x y =
-      value-small y _ 0
-      (small-profile (λ acc. next zero-le (λ e. next zero-le (λ f. next zero-le (λ g. done zero-le)))))
+      value-by y _
+      (λ acc. value-small y _ 0 (next zero-le (λ e. next zero-le (λ f. next zero-le (λ g. done zero-le)))))
 
   -- no position and no number of sets is greater than the number of sets of 24 nodes
   pub survey-counted : (start most : ℕ) (x : List ℕ) → Counted (surveyOf p start most x .0)
-  unfolding surveyOf surveyTests positionIn lookedIn indexOf
+  unfolding surveyOf surveyWith surveyTests positionIn lookedIn indexOf
   survey-counted start most x =
-      tried-small (λ (o : Surveyed × List ℕ). Counted (o .0)) {most = 0} (λ r. (surveys.Refused r, x))
-      (resultOf (profileOf p) start most x) (λ r h. record { position = zero-le; looked = zero-le }) (λ c. c)
-      (small-profile (λ acc. next zero-le (λ e. next zero-le (λ f.
-      done (counted acc (ltb-false (sets (p .n) (p .k)) start e))))))
+      by-profile (λ (o : Surveyed × List ℕ). Counted (o .0)) (λ r. (surveys.Refused r, x)) _
+      (λ r h. record { position = zero-le; looked = zero-le })
+      (λ acc.
+      tried-small (λ (o : Surveyed × List ℕ). Counted (o .0)) {most = 0} (λ r. (surveys.Refused r, x)) _
+      (λ r h. record { position = zero-le; looked = zero-le }) (λ c. c)
+      (next zero-le (λ e. next zero-le (λ f. done (counted acc (ltb-false (sets (p .n) (p .k)) start e))))))
     where
       q : Profile
       q = profileOf p
@@ -148,14 +159,15 @@ module _ (p : Numbers) where
     few acc e = few-places (profileOf p) acc node (ltb-true lost (p .n) (not-false _ e))
 
     pub plan-value : (x : List ℕ) → answerValue (planOf p lost x .0) ≤ maxPlaces
-    unfolding planOf planTests indexOf
-    plan-value x = value-small x _ _ (small-profile (λ acc. next zero-le (λ e. next zero-le (λ f. done (few acc e)))))
+    unfolding planOf planWith planTests indexOf
+    plan-value x =
+        value-by x _ (λ acc. value-small x _ _ (next zero-le (λ e. next zero-le (λ f. done (few acc e)))))
 
     pub write-value : (r : Recording) (x b : List ℕ) → answerValue (writeOf p lost r x b .0) ≤ longestBundle
-    unfolding writeOf writeTests indexOf
+    unfolding writeOf writeWith writeTests indexOf
     write-value r x b =
-        value-small b _ _
-        (small-profile (λ acc. next zero-le (λ e. next zero-le (λ f. done (size acc e (not-false _ f))))))
+        value-by b _
+        (λ acc. value-small b _ _ (next zero-le (λ e. next zero-le (λ f. done (size acc e (not-false _ f))))))
       where
         size : Accepted (profileOf p) → not (ltb lost (p .n)) ≡ false
             → eqb (length x) (p .n * p .a * p .s) && eqb (length b) (bundleLength (profileOf p) node) ≡ true
@@ -172,11 +184,12 @@ module _ (p : Numbers) where
             )
 
     pub rebuild-value : (r : Recording) (b y : List ℕ) → answerValue (rebuildOf p lost r b y .0) < maxPlaces
-    unfolding rebuildOf rebuildTests bundleTests indexOf
+    unfolding rebuildOf rebuildWith rebuildTests bundleTests indexOf
     rebuild-value r b y =
         suc-le-suc
-        (value-small y _ 0
-        (small-profile (λ acc. next zero-le (λ e. next zero-le (λ f. next zero-le (λ g. next zero-le (λ h.
+        (value-by y _
+        (λ acc. value-small y _ 0
+        (next zero-le (λ e. next zero-le (λ f. next zero-le (λ g. next zero-le (λ h.
         small-listed places _ (small acc e) (small-last places _ (small acc e) zero-le))))))))
       where
         small : Accepted (profileOf p) → not (ltb lost (p .n)) ≡ false → (i : ℕ) → i < places → i ≤ 37

@@ -53,7 +53,7 @@ use Rattle.document.specs.declared.Refusal.the-variants.{
 use Rattle.document.specs.declared.Answer.{Answer}
 use Rattle.document.specs.declared.Answer.the-variants.{Done, Refused}
 use Rattle.document.specs.Refusals.{Test, tried}
-use Rattle.document.specs.Profile.{maxStrip, profileTests, profileOf}
+use Rattle.document.specs.Profile.{maxStrip, onAccepted}
 use Rattle.document.specs.Places.{place, samePlace}
 use Rattle.document.specs.Encoding.{start}
 use Rattle.document.specs.Plan.{planned, plannedAt, maxPlaces}
@@ -112,23 +112,24 @@ unfoldable pub bundleOf : Profile → Node → Recording → List ℕ → List �
 bundleOf p f r x =
     fieldOf 1 (profileContent p) ++ (fieldOf 2 (lostContent f r) ++ stripFields p r x (planned p f))
 
--- The refusals of writing: 1, 2, 3, 4, then 5 for an array not of nAS bytes or a bundle not of its length.
-unfoldable pub writeTests : Numbers → ℕ → List ℕ → List ℕ → List Test
+-- The refusals of writing past 1, 2 and 3: 4, then 5 for an array not of nAS bytes or a bundle not of its length.
+unfoldable pub writeTests : Profile → Node → List ℕ → List ℕ → List Test
 writeTests p f x b =
-    profileTests p
-    ++ (record { refusal = OutOfRange; holds = not (ltb f (p .n)) }
+    record { refusal = OutOfRange; holds = not (ltb (f .0) (p .n)) }
     ∷ record {
       refusal = BufferLength;
-      holds = not
-          (eqb (length x) (p .n * p .a * p .s) && eqb (length b) (bundleLength (profileOf p) (record { 0 = f })));
+      holds = not (eqb (length x) (p .n * p .a * p .s) && eqb (length b) (bundleLength p f));
     }
-    ∷ [])
+    ∷ []
 
 -- 'On success the answer is 0, with .. the length for a bundle'
-unfoldable pub writeOf : Numbers → ℕ → Recording → List ℕ → List ℕ → Answer × List ℕ
-writeOf p f r x b =
-    let bundle : List ℕ = bundleOf (profileOf p) (record { 0 = f }) r x in
+unfoldable pub writeWith : Profile → Node → Recording → List ℕ → List ℕ → Answer × List ℕ
+writeWith p f r x b =
+    let bundle : List ℕ = bundleOf p f r x in
     tried (writeTests p f x b) (λ refusal. (Refused refusal, b)) (Done (length bundle), bundle)
+
+unfoldable pub writeOf : Numbers → ℕ → Recording → List ℕ → List ℕ → Answer × List ℕ
+writeOf p f r x b = onAccepted p (λ refusal. (Refused refusal, b)) (λ q. writeWith q (record { 0 = f }) r x b)
 
 -- ---- what a reader finds where the fields of a bundle stand
 module _ (p : Profile) where

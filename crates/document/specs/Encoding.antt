@@ -15,14 +15,15 @@
 -- encoded p d       : the array that the data d give
 -- plain p d         : the base symbols of the data d, not coupled
 -- coupled p x       : the bytes of x taken for base symbols, and coupled
--- encodeTests p d x : the refusals of encoding, in their order
--- encodeOf p d x    : encoding d into x: the answer, and what x holds then
+-- encodeTests p d x : the refusals of encoding past those of a profile, in their order
+-- encodeWith p d x  : encoding d into x with the profile p: the answer, and what x holds then
+-- encodeOf p d x    : the same for any numbers p
 --
 -- From the algebra: sum K k f adds f 0 to f (k-1); weight K k x m z is the product over i < k, i not m, of
 -- (z + x i) / (x m + x i); pick is a choice by a decision.
 use mathlib.Core.Path.{_≡_}
 use mathlib.Core.Bool.{_&&_, not}
-use mathlib.Core.List.{List, [], _∷_, _++_}
+use mathlib.Core.List.{List, [], _∷_}
 use Prim.Native.Nat.{ℕ, _+_, _*_, _/_, _%_, _<_}
 use native.Mathlib.Decide.{ℕ-discrete, decLt}
 use lib.Dec.{eqb}
@@ -40,7 +41,7 @@ use Rattle.document.specs.declared.Refusal.the-variants.{BufferLength}
 use Rattle.document.specs.declared.Answer.{Answer}
 use Rattle.document.specs.declared.Answer.the-variants.{Done, Refused}
 use Rattle.document.specs.Refusals.{Test, tried}
-use Rattle.document.specs.Profile.{profileTests, profileOf}
+use Rattle.document.specs.Profile.{onAccepted}
 use Rattle.document.specs.Places.{place, localColumn, partnerOf}
 use Rattle.document.specs.Bytes.{bytes, Byte, byte, number}
 
@@ -109,15 +110,17 @@ module _ (p : Profile) where
   unfoldable pub coupled : List ℕ → List ℕ
   coupled x = laidOut n (λ b. coupledAt (byteAt x b))
 
--- The refusals of encoding: 1, 2, 3, then 5 for data not of kAS bytes or an array not of nAS bytes.
-unfoldable pub encodeTests : Numbers → List ℕ → List ℕ → List Test
+-- The refusals of encoding past 1, 2 and 3: 5 for data not of kAS bytes or an array not of nAS bytes.
+unfoldable pub encodeTests : Profile → List ℕ → List ℕ → List Test
 encodeTests p d x =
-    profileTests p
-    ++ (record {
+    record {
       refusal = BufferLength;
       holds = not (eqb (length d) (p .k * p .a * p .s) && eqb (length x) (p .n * p .a * p .s));
     }
-    ∷ [])
+    ∷ []
+
+unfoldable pub encodeWith : Profile → List ℕ → List ℕ → Answer × List ℕ
+encodeWith p d x = tried (encodeTests p d x) (λ r. (Refused r, x)) (Done 0, encoded p d)
 
 unfoldable pub encodeOf : Numbers → List ℕ → List ℕ → Answer × List ℕ
-encodeOf p d x = tried (encodeTests p d x) (λ r. (Refused r, x)) (Done 0, encoded (profileOf p) d)
+encodeOf p d x = onAccepted p (λ r. (Refused r, x)) (λ q. encodeWith q d x)

@@ -35,7 +35,7 @@ use Rattle.document.specs.declared.Refusal.the-variants.{OutOfRange, Buf
 use Rattle.document.specs.declared.Answer.{Answer}
 use Rattle.document.specs.declared.Answer.the-variants.{Done, Refused}
 use Rattle.document.specs.Refusals.{Test, tried}
-use Rattle.document.specs.Profile.{profileTests, profileOf}
+use Rattle.document.specs.Profile.{onAccepted}
 use Rattle.document.specs.Places.{place, groupOf, localColumn, partnerOf}
 
 module _ (A : ℕ) (f : Node) where
@@ -124,19 +124,18 @@ unfoldable pub planBytes : List Place → List ℕ
 planBytes [] = []
 planBytes (q ∷ qs) = q .node .0 ∷ q .row .0 ∷ planBytes qs
 
--- The refusals of planning: 1, 2, 3, then 4 for 'lost node not below n', then 5 for a buffer too short.
-unfoldable pub planTests : Numbers → ℕ → List ℕ → List Test
+-- The refusals of planning past 1, 2 and 3: 4 for 'lost node not below n', then 5 for a buffer too short.
+unfoldable pub planTests : Profile → Node → List ℕ → List Test
 planTests p f x =
-    profileTests p
-    ++ (record { refusal = OutOfRange; holds = not (ltb f (p .n)) }
-    ∷ record {
-      refusal = BufferLength;
-      holds = ltb (length x) (2 * length (planned (profileOf p) (record { 0 = f })));
-    }
-    ∷ [])
+    record { refusal = OutOfRange; holds = not (ltb (f .0) (p .n)) }
+    ∷ record { refusal = BufferLength; holds = ltb (length x) (2 * length (planned p f)) }
+    ∷ []
 
 -- 'into a lent buffer that may be longer; bytes past the plan stay'; 'with the number of places for a plan'.
-unfoldable pub planOf : Numbers → ℕ → List ℕ → Answer × List ℕ
-planOf p f x =
-    let plan : List Place = planned (profileOf p) (record { 0 = f }) in
+unfoldable pub planWith : Profile → Node → List ℕ → Answer × List ℕ
+planWith p f x =
+    let plan : List Place = planned p f in
     tried (planTests p f x) (λ r. (Refused r, x)) (Done (length plan), planBytes plan ++ drop (2 * length plan) x)
+
+unfoldable pub planOf : Numbers → ℕ → List ℕ → Answer × List ℕ
+planOf p f x = onAccepted p (λ r. (Refused r, x)) (λ q. planWith q (record { 0 = f }) x)

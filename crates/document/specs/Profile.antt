@@ -8,6 +8,8 @@
 -- stripAccepted S             : the test whether S is
 -- profileTests p              : the refusals 1, 2 and 3 in their order
 -- profileOf p                 : the numbers p as a profile
+-- onAccepted p refuse go      : the head of a call: refuse r for the first of these refusals that applies to p; go with p
+--                               as a profile if none does
 -- checkedOf p                 : the profile with the numbers p, or its first refusal
 use mathlib.Core.Path.{_≡_}
 use mathlib.Core.Bool.{Bool, _&&_, not}
@@ -16,6 +18,7 @@ use Prim.Native.Nat.{ℕ, _-_, _%_, _≤_, _<_}
 use lib.Dec.{eqb, leb, ltb}
 use Rattle.document.specs.declared.Numbers.{Numbers}
 use Rattle.document.specs.declared.Profile.{Profile}
+use Rattle.document.specs.declared.Refusal.{Refusal}
 use Rattle.document.specs.declared.Refusal.the-variants.{Shape, Constant, StripLength}
 use Rattle.document.specs.declared.Checked.{Checked}
 use Rattle.document.specs.declared.Checked.the-variants.{Passed, Rejected}
@@ -71,5 +74,9 @@ profileTests p =
 abbrev pub profileOf : Numbers → Profile
 profileOf p = record { n = p .n; k = p .k; a = p .a; t = p .t; s = p .s }
 
+-- How every call begins that is given a profile's numbers: what it tries next is said of an accepted profile.
+unfoldable pub onAccepted {ℓ} : {X : Type ℓ} → Numbers → (Refusal → X) → (Profile → X) → X
+onAccepted p refuse go = tried (profileTests p) refuse (go (profileOf p))
+
 unfoldable pub checkedOf : Numbers → Checked
-checkedOf p = tried (profileTests p) Rejected (Passed (profileOf p))
+checkedOf p = onAccepted p Rejected Passed

@@ -24,7 +24,7 @@
 use mathlib.Core.Path.{_≡_}
 use mathlib.Core.Logic.{_≢_}
 use mathlib.Core.Bool.{Bool, true, false, _&&_, not}
-use mathlib.Core.List.{List, [], _∷_, _++_}
+use mathlib.Core.List.{List, [], _∷_}
 use Prim.Native.Nat.{ℕ, zero, suc, _+_, _*_, _/_, _%_}
 use native.Mathlib.Decide.{ℕ-discrete}
 use lib.Dec.{eqb, leb, ltb}
@@ -44,7 +44,7 @@ use Rattle.document.specs.declared.Refusal.the-variants.{OutOfRange, Buf
 use Rattle.document.specs.declared.Answer.{Answer}
 use Rattle.document.specs.declared.Answer.the-variants.{Done, Refused}
 use Rattle.document.specs.Refusals.{Test, tried}
-use Rattle.document.specs.Profile.{profileTests, profileOf}
+use Rattle.document.specs.Profile.{onAccepted}
 use Rattle.document.specs.Places.{place}
 use Rattle.document.specs.Bytes.{bytes, Byte, byte, number}
 use Rattle.document.specs.Encoding.{byteAt, coupledAt, laidOut, Data, encoded}
@@ -123,17 +123,19 @@ module _ (p : Profile) where
       laidOut p k
       (λ b q. sum bytes (k * A) (λ z. byte (entry (inverseOf nodes) (dataIndex q) z) ⊗ byte (getD x (z * S + b) 0)))
 
--- The refusals of reading back: 1, 2, 3, then 4 for the list, 5 for columns or data not of kAS bytes, 10.
-unfoldable pub readTests : Numbers → List ℕ → List ℕ → List ℕ → List Test
+-- The refusals of reading back past 1, 2 and 3: 4 for the list, 5 for columns or data not of kAS bytes, 10.
+unfoldable pub readTests : Profile → List ℕ → List ℕ → List ℕ → List Test
 readTests p nodes x y =
-    profileTests p
-    ++ (record { refusal = OutOfRange; holds = not (listAccepted (p .n) 0 (p .k) nodes) }
+    record { refusal = OutOfRange; holds = not (listAccepted (p .n) 0 (p .k) nodes) }
     ∷ record {
       refusal = BufferLength;
       holds = not (eqb (length x) (p .k * p .a * p .s) && eqb (length y) (p .k * p .a * p .s));
     }
-    ∷ record { refusal = Ambiguous; holds = ambiguous (profileOf p) nodes }
-    ∷ [])
+    ∷ record { refusal = Ambiguous; holds = ambiguous p nodes }
+    ∷ []
+
+unfoldable pub readWith : Profile → List ℕ → List ℕ → List ℕ → Answer × List ℕ
+readWith p nodes x y = tried (readTests p nodes x y) (λ r. (Refused r, y)) (Done 0, dataFrom p nodes x)
 
 unfoldable pub readOf : Numbers → List ℕ → List ℕ → List ℕ → Answer × List ℕ
-readOf p nodes x y = tried (readTests p nodes x y) (λ r. (Refused r, y)) (Done 0, dataFrom (profileOf p) nodes x)
+readOf p nodes x y = onAccepted p (λ r. (Refused r, y)) (λ q. readWith q nodes x y)

@@ -6,13 +6,15 @@
 -- rebuiltOver p f w x             : the column of f rebuilt from x over the walk w, where x b q is byte b at the place q
 -- rebuiltOf p f src first stride  : the column of f rebuilt from the strips of src, given in plan order
 -- firstStrip                      : where the first strip of a bundle starts
--- rebuildTests p f r b y          : the refusals of a rebuild, in their order
--- rebuildOf p f r b y             : rebuilding from the bundle b into y: the answer, and what y holds then
+-- rebuildTests p f r b y          : the refusals of a rebuild past those of a profile, in their order
+-- rebuildWith p f r b y           : rebuilding from the bundle b into y with the profile p: the answer, and what y holds
+--                                   then
+-- rebuildOf p f r b y             : the same for any numbers p
 --
 -- The algebra's rebuiltAt computes the column; that it is the one which every encoded array with these strips has is
 -- demand 3.
 use mathlib.Core.Bool.{not, cond}
-use mathlib.Core.List.{List, [], _∷_, _++_}
+use mathlib.Core.List.{List, [], _∷_}
 use Prim.Native.Nat.{ℕ, suc, _+_, _*_}
 use lib.Dec.{eqb, ltb}
 use lib.ListN.{length, getD}
@@ -27,7 +29,7 @@ use Rattle.document.specs.declared.Refusal.the-variants.{OutOfRange, Buf
 use Rattle.document.specs.declared.Answer.{Answer}
 use Rattle.document.specs.declared.Answer.the-variants.{Done, Refused}
 use Rattle.document.specs.Refusals.{Test, tried}
-use Rattle.document.specs.Profile.{profileTests, profileOf}
+use Rattle.document.specs.Profile.{onAccepted}
 use Rattle.document.specs.Places.{place, samePlace}
 use Rattle.document.specs.Bytes.{bytes, Byte, byte}
 use Rattle.document.specs.Encoding.{factorAt, columnOf}
@@ -52,20 +54,22 @@ rebuiltOver p f w x =
 unfoldable pub rebuiltOf : Profile → Node → List ℕ → ℕ → ℕ → List ℕ
 rebuiltOf p f src first stride = rebuiltOver p f (walkOf p f) (givenAt (planned p f) src first stride)
 
--- The refusals of a rebuild: 1, 2, 3, 4, then 5 for a column not of AS bytes, then those of the bundle, 6 to 9.
-unfoldable pub rebuildTests : Numbers → ℕ → Recording → List ℕ → List ℕ → List Test
+-- The refusals of a rebuild past 1, 2 and 3: 4, then 5 for a column not of AS bytes, then those of the bundle, 6 to 9.
+unfoldable pub rebuildTests : Profile → Node → Recording → List ℕ → List ℕ → List Test
 rebuildTests p f r b y =
-    profileTests p
-    ++ (record { refusal = OutOfRange; holds = not (ltb f (p .n)) }
+    record { refusal = OutOfRange; holds = not (ltb (f .0) (p .n)) }
     ∷ record { refusal = BufferLength; holds = not (eqb (length y) (p .a * p .s)) }
-    ∷ bundleTests (profileOf p) (record { 0 = f }) r b)
+    ∷ bundleTests p f r b
 
 -- The strips of a bundle lie past its head, each past the place and the recording of its field.
 abbrev pub firstStrip : ℕ
 firstStrip = headLength + openingLength + 2 + recordingLength
 
 -- 'The rebuilt column is the AS bytes that a rebuild not refused leaves in the buffer lent for writing.'
-unfoldable pub rebuildOf : Numbers → ℕ → Recording → List ℕ → List ℕ → Answer × List ℕ
-rebuildOf p f r b y =
+unfoldable pub rebuildWith : Profile → Node → Recording → List ℕ → List ℕ → Answer × List ℕ
+rebuildWith p f r b y =
     tried (rebuildTests p f r b y) (λ refusal. (Refused refusal, y))
-    (Done 0, rebuiltOf (profileOf p) (record { 0 = f }) b firstStrip (stripFieldLength (p .s)))
+    (Done 0, rebuiltOf p f b firstStrip (stripFieldLength (p .s)))
+
+unfoldable pub rebuildOf : Numbers → ℕ → Recording → List ℕ → List ℕ → Answer × List ℕ
+rebuildOf p f r b y = onAccepted p (λ refusal. (Refused refusal, y)) (λ q. rebuildWith q (record { 0 = f }) r b y)

@@ -16,7 +16,7 @@
 --
 -- From `ksets`: sets n k is the number of sets of k of n nodes, setAt 0 n k pos the set at a position.
 use mathlib.Core.Bool.{Bool, not, cond}
-use mathlib.Core.List.{List, [], _∷_, _++_}
+use mathlib.Core.List.{List, [], _∷_}
 use Prim.Native.Nat.{ℕ, zero, suc, _+_, _-_, min}
 use lib.Dec.{eqb, ltb}
 use lib.ListN.{length}
@@ -29,7 +29,7 @@ use Rattle.document.specs.declared.Answer.the-variants as answers
 use Rattle.document.specs.declared.Surveyed.{Surveyed}
 use Rattle.document.specs.declared.Surveyed.the-variants.{Failing, Done, Open, Refused}
 use Rattle.document.specs.Refusals.{Test, tried}
-use Rattle.document.specs.Profile.{profileTests, profileOf}
+use Rattle.document.specs.Profile.{onAccepted}
 use Rattle.document.specs.Reading.{ambiguous}
 
 unfoldable pub firstIn : (ℕ → Bool) → ℕ → ℕ → ℕ
@@ -61,17 +61,18 @@ module _ (p : Profile) where
       cond (ltb found (start + looked)) (Failing found (found - start + 1), setAt 0 n k found)
       (cond (eqb (start + looked) (sets n k)) (Done looked, x) (Open looked, x))
 
--- The refusals of a survey: 1, 2, 3, then 4 for a 'survey start above the number of sets', 5 for a set not of k bytes.
-unfoldable pub surveyTests : Numbers → ℕ → List ℕ → List Test
+-- The refusals of a survey past 1, 2 and 3: 4 for a 'survey start above the number of sets', 5 for a set not of k bytes.
+unfoldable pub surveyTests : Profile → ℕ → List ℕ → List Test
 surveyTests p start x =
-    profileTests p
-    ++ (record { refusal = OutOfRange; holds = ltb (sets (p .n) (p .k)) start }
+    record { refusal = OutOfRange; holds = ltb (sets (p .n) (p .k)) start }
     ∷ record { refusal = BufferLength; holds = not (eqb (length x) (p .k)) }
-    ∷ [])
+    ∷ []
+
+unfoldable pub surveyWith : Profile → ℕ → ℕ → List ℕ → Surveyed × List ℕ
+surveyWith p start most x = tried (surveyTests p start x) (λ r. (Refused r, x)) (resultOf p start most x)
 
 unfoldable pub surveyOf : Numbers → ℕ → ℕ → List ℕ → Surveyed × List ℕ
-surveyOf p start most x =
-    tried (surveyTests p start x) (λ r. (Refused r, x)) (resultOf (profileOf p) start most x)
+surveyOf p start most x = onAccepted p (λ r. (Refused r, x)) (λ q. surveyWith q start most x)
 
 -- 'On success the answer is 0': what a survey has in common with every other call.
 unfoldable pub surveyAnswer : Surveyed → answer.Answer

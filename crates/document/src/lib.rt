@@ -98,14 +98,7 @@ impl Refusal {
         match self {
             Refusal::Misplaced(i) => i,
             Refusal::Stale(i) => i,
-            Refusal::Shape => 0,
-            Refusal::Constant => 0,
-            Refusal::StripLength => 0,
-            Refusal::OutOfRange => 0,
-            Refusal::BufferLength => 0,
-            Refusal::BundleForm => 0,
-            Refusal::BundleHead => 0,
-            Refusal::Ambiguous => 0,
+            _ => 0,
         }
     }
 }

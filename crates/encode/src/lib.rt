@@ -3,7 +3,7 @@ ghost use mathlib.Core.Path.{_≡_};
 ghost use Prim.Native.Nat.{_*_, _<_, _≤_};
 ghost use lib.ListN.{length};
 ghost use Rattle.document.specs.Profile.{Accepted};
-ghost use Rattle.document.specs.Encoding.{baseAt, columnOf, plain, coupled, encodeOf};
+ghost use Rattle.document.specs.Encoding.{baseAt, columnOf, plain, coupled, encodeWith, encodeOf};
 ghost use Rattle.coefficients.specs.Data.{dataDenominators};
 ghost use Rattle.encode.specs.Steps.{pairCoupled};
 use document::Answer;
@@ -79,6 +79,22 @@ pub fn couple(x: &mut [u8], p: Profile)
     }
 }
 
+// Encodes with an accepted profile.
+fn encode_with(p: Profile, input: &[u8], array: &mut [u8]) -> Answer
+    requires { ⌜ Accepted p ⌝ }
+    ensures { λ r. ⌜ (r, now (array .exit)) ≡ encodeWith p (now (input .entry)) (now (array .entry)) ⌝ }
+{
+    if input.len() != p.k * p.a * p.s {
+        return Answer::Refused(Refusal::BufferLength);
+    }
+    if array.len() != p.n * p.a * p.s {
+        return Answer::Refused(Refusal::BufferLength);
+    }
+    put_rows(array, p, input);
+    couple(array, p);
+    Answer::Done(0)
+}
+
 // Encodes the data into the array. After a refusal the array is what it was.
 pub fn encode(p: Numbers, input: &[u8], array: &mut [u8]) -> Answer
     ensures { λ r. ⌜ (r, now (array .exit)) ≡ encodeOf p (now (input .entry)) (now (array .entry)) ⌝ }
@@ -86,16 +102,6 @@ pub fn encode(p: Numbers, input: &[u8], array: &mut [u8]) -> Answer
     let checked = Profile::new(p);
     match checked {
         Checked::Rejected(r) => Answer::Refused(r),
-        Checked::Passed(q) => {
-            if input.len() != q.k * q.a * q.s {
-                return Answer::Refused(Refusal::BufferLength);
-            }
-            if array.len() != q.n * q.a * q.s {
-                return Answer::Refused(Refusal::BufferLength);
-            }
-            put_rows(array, q, input);
-            couple(array, q);
-            Answer::Done(0)
-        }
+        Checked::Passed(q) => encode_with(q, input, array),
     }
 }

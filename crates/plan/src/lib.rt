@@ -6,7 +6,7 @@ ghost use lib.ListN.{length, getD, take};
 ghost use Rattle.lists.specs.Listed.{rising};
 ghost use Rattle.lists.specs.Put.{Wrote};
 ghost use Rattle.document.specs.Profile.{Accepted};
-ghost use Rattle.document.specs.Plan.{walkOf, nodesOver, planned, priceOf, planBytes, planOf};
+ghost use Rattle.document.specs.Plan.{walkOf, nodesOver, planned, priceOf, planBytes, planWith, planOf};
 ghost use Rattle.plan.specs.Steps.{inStep, placesAt, placesOf};
 use document::Answer;
 use document::Checked;
@@ -139,6 +139,22 @@ pub fn price(p: Profile) -> usize
     singles + (p.k - others)
 }
 
+// Plans with an accepted profile.
+fn plan_with(p: Profile, f: Node, places: &mut [u8]) -> Answer
+    requires { ⌜ Accepted p ⌝ }
+    ensures { λ r. ⌜ (r, now (places .exit)) ≡ planWith p f (now (places .entry)) ⌝ }
+{
+    if f.0 >= p.n {
+        return Answer::Refused(Refusal::OutOfRange);
+    }
+    let count = price(p);
+    if places.len() < 2 * count {
+        return Answer::Refused(Refusal::BufferLength);
+    }
+    put_plan(places, p, f);
+    Answer::Done(count)
+}
+
 // Writes the plan for a lost node, two bytes a place; bytes past it stay. After a refusal all bytes are what they were.
 pub fn plan(p: Numbers, lost: usize, places: &mut [u8]) -> Answer
     ensures { λ r. ⌜ (r, now (places .exit)) ≡ planOf p lost (now (places .entry)) ⌝ }
@@ -146,16 +162,6 @@ pub fn plan(p: Numbers, lost: usize, places: &mut [u8]) -> Answer
     let checked = Profile::new(p);
     match checked {
         Checked::Rejected(r) => Answer::Refused(r),
-        Checked::Passed(q) => {
-            if lost >= q.n {
-                return Answer::Refused(Refusal::OutOfRange);
-            }
-            let count = price(q);
-            if places.len() < 2 * count {
-                return Answer::Refused(Refusal::BufferLength);
-            }
-            put_plan(places, q, Node(lost));
-            Answer::Done(count)
-        }
+        Checked::Passed(q) => plan_with(q, Node(lost), places),
     }
 }

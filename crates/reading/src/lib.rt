@@ -5,7 +5,7 @@ ghost use Prim.Native.Nat.{_*_, _≤_, _<_};
 ghost use lib.ListN.{length};
 ghost use Rattle.ksets.specs.Sets.{Rising};
 ghost use Rattle.document.specs.Profile.{Accepted};
-ghost use Rattle.document.specs.Reading.{listAccepted, readOf};
+ghost use Rattle.document.specs.Reading.{listAccepted, readWith, readOf};
 ghost use Rattle.half_pairs.specs.HalfPairs.{positionTable, halfPairs, weightTable};
 ghost use Rattle.reading.specs.Steps.{multipleOf, uncoupledStrip, knownStrip, knownStrips};
 ghost use Rattle.reading.specs.Steps.{knownPartnerStrip, knownPartnerStrips};
@@ -333,6 +333,25 @@ fn read_from(p: Profile, nodes: &[u8], columns: &[u8], output: &mut [u8]) -> Ans
     }
 }
 
+// Reads back with an accepted profile.
+fn read_with(p: Profile, nodes: &[u8], columns: &[u8], output: &mut [u8]) -> Answer
+    requires { ⌜ Accepted p ⌝ }
+    ensures { λ r. ⌜ (r, now (output .exit))
+        ≡ readWith p (now (nodes .entry)) (now (columns .entry)) (now (output .entry)) ⌝ }
+{
+    if !accepts_list(nodes, p.n, p.k) {
+        return Answer::Refused(Refusal::OutOfRange);
+    }
+    let size = p.k * p.a * p.s;
+    if columns.len() != size {
+        return Answer::Refused(Refusal::BufferLength);
+    }
+    if output.len() != size {
+        return Answer::Refused(Refusal::BufferLength);
+    }
+    read_from(p, nodes, columns, output)
+}
+
 // Reads the data back from the columns of the named nodes, joined in list order. After a refusal the output is what it
 // was.
 pub fn read_back(p: Numbers, nodes: &[u8], columns: &[u8], output: &mut [u8]) -> Answer
@@ -342,18 +361,6 @@ pub fn read_back(p: Numbers, nodes: &[u8], columns: &[u8], output: &mut [u8]) ->
     let checked = Profile::new(p);
     match checked {
         Checked::Rejected(r) => Answer::Refused(r),
-        Checked::Passed(q) => {
-            if !accepts_list(nodes, q.n, q.k) {
-                return Answer::Refused(Refusal::OutOfRange);
-            }
-            let size = q.k * q.a * q.s;
-            if columns.len() != size {
-                return Answer::Refused(Refusal::BufferLength);
-            }
-            if output.len() != size {
-                return Answer::Refused(Refusal::BufferLength);
-            }
-            read_from(q, nodes, columns, output)
-        }
+        Checked::Passed(q) => read_with(q, nodes, columns, output),
     }
 }

@@ -1,4 +1,3 @@
 pub mod Rows
 pub mod Folded
 pub mod Column
-pub mod FromBundle

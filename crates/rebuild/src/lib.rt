@@ -9,9 +9,8 @@ ghost use Rattle.strips.specs.Strips.{addedScaled};
 ghost use Rattle.document.specs.Bytes.{number};
 ghost use Rattle.document.specs.Profile.{Accepted};
 ghost use Rattle.document.specs.Plan.{walkOf, chosenOver, nodesOver, planned};
-ghost use Rattle.document.specs.Rebuild.{givenAt, rebuiltOf, rebuildOf};
+ghost use Rattle.document.specs.Rebuild.{givenAt, rebuiltOf, rebuildWith, rebuildOf};
 ghost use Rattle.plan.specs.Steps.{placesAt};
-ghost use Rattle.rebuild.specs.FromBundle.{fromBundle};
 ghost use Rattle.rebuild.specs.Folded.{foldedOf, StripsFit, NodeAt};
 ghost use Rattle.gf256.specs.Field.{quotientsOf, NoZero};
 ghost use Rattle.coefficients.specs.Weights.{Different, Outside, denominatorsOf, weightsOf};
@@ -329,11 +328,17 @@ pub fn rebuild_column(
     rebuild_rows(column, &folded[..size], p, f, &nodes[..count]);
 }
 
-// Rebuilds from a bundle, if it is what is wanted.
-fn rebuild_from(p: Profile, f: Node, r: Recording, bundle: &[u8], column: &mut [u8]) -> Answer
-    requires { ⌜ Accepted p × (f .0 < p .n) × (length (now column) ≡ p .a * p .s) ⌝ }
-    ensures { λ a. ⌜ (a, now (column .exit)) ≡ fromBundle p f r (now (bundle .entry)) (now (column .entry)) ⌝ }
+// Rebuilds with an accepted profile, from the strips of a bundle that passes all tests.
+fn rebuild_with(p: Profile, f: Node, r: Recording, bundle: &[u8], column: &mut [u8]) -> Answer
+    requires { ⌜ Accepted p ⌝ }
+    ensures { λ a. ⌜ (a, now (column .exit)) ≡ rebuildWith p f r (now (bundle .entry)) (now (column .entry)) ⌝ }
 {
+    if f.0 >= p.n {
+        return Answer::Refused(Refusal::OutOfRange);
+    }
+    if column.len() != p.a * p.s {
+        return Answer::Refused(Refusal::BufferLength);
+    }
     let answer = bundle::check(p, f, r, bundle);
     match answer {
         Answer::Refused(refusal) => Answer::Refused(refusal),
@@ -352,14 +357,6 @@ pub fn rebuild(p: Numbers, lost: usize, r: Recording, bundle: &[u8], column: &mu
     let checked = Profile::new(p);
     match checked {
         Checked::Rejected(refusal) => Answer::Refused(refusal),
-        Checked::Passed(q) => {
-            if lost >= q.n {
-                return Answer::Refused(Refusal::OutOfRange);
-            }
-            if column.len() != q.a * q.s {
-                return Answer::Refused(Refusal::BufferLength);
-            }
-            rebuild_from(q, Node(lost), r, bundle, column)
-        }
+        Checked::Passed(q) => rebuild_with(q, Node(lost), r, bundle, column),
     }
 }

@@ -15,10 +15,8 @@ use Rattle.document.specs.declared.Profile.{Profile}
 use Rattle.document.specs.declared.Node.{Node}
 use Rattle.document.specs.declared.Recording.{Recording}
 use Rattle.document.specs.declared.Refusal.the-variants.{OutOfRange, BufferLength, BundleForm}
-use Rattle.document.specs.declared.Checked.{Checked}
-use Rattle.document.specs.declared.Checked.the-variants.{Passed, Rejected}
 use Rattle.document.specs.Refusals.{Test, tried}
-use Rattle.document.specs.Profile.{maxStrip, Accepted, profileOf, checkedOf}
+use Rattle.document.specs.Profile.{maxStrip, Accepted, profileOf}
 use Rattle.document.specs.Plan.{planned, maxPlaces}
 use Rattle.document.specs.Bundle.{stripFieldLength, bundleLength, longestBundle, formed, bundleTests}
 use Rattle.document.specs.Rebuild.{rebuildTests, rebuildOf}
@@ -32,9 +30,9 @@ use Rattle.document.specs.Program.{
   outputOf,
   programOf,
 }
-use Rattle.document.proofs.Accepts.{accepted, tried-rejected, tried-accepted}
+use Rattle.document.proofs.Accepts.{on-accepted-same}
 use Rattle.document.proofs.Price.{few-places}
-use Rattle.document.proofs.Program.{output-is}
+use Rattle.document.proofs.Program.{told, output-is}
 use Rattle.rebuild_answer.specs.Room.{longestInput}
 
 -- a bundle longer than that of the most places with the longest strips is refused at the latest for its length
@@ -65,22 +63,15 @@ too-long : (p : Numbers) (f : ℕ) (r : Recording) (b c y : List ℕ)
     → longestBundle < length b → longestBundle < length c
     → outputOf (rebuildOf p f r b y) ≡ outputOf (rebuildOf p f r c y)
 unfolding rebuildTests bundleTests
-too-long p f r b c y lb lc = go (checkedOf p) refl
-  where
-    go : (o : Checked) → checkedOf p ≡ o → outputOf (rebuildOf p f r b y) ≡ outputOf (rebuildOf p f r c y)
-    go (Rejected s) e =
-        output-is p f r b y ∙ tried-rejected p _ lineOf _ s e ∙ sym (tried-rejected p _ lineOf _ s e)
-        ∙ sym (output-is p f r c y)
-    go (Passed q) e =
-        let acc : Accepted (profileOf p) = rw (accepted p q e .0) at (accepted p q e .1) in
-        output-is p f r b y ∙ tried-accepted p _ lineOf _ q e
-        ∙ form-refused (ltb f (p .n)) _ _ _ _ _ _ _
-        (λ h. (
-          not-formed (profileOf p) acc (record { 0 = f }) (ltb-true f (p .n) h) b lb,
-          not-formed (profileOf p) acc (record { 0 = f }) (ltb-true f (p .n) h) c lc,
-        ))
-        ∙ sym (tried-accepted p _ lineOf _ q e)
-        ∙ sym (output-is p f r c y)
+too-long p f r b c y lb lc =
+    output-is p f r b y
+    ∙ on-accepted-same p lineOf (told p f r b y) (told p f r c y)
+    (λ acc. form-refused (ltb f (p .n)) _ _ _ _ _ _ _
+    (λ h. (
+      not-formed (profileOf p) acc (record { 0 = f }) (ltb-true f (p .n) h) b lb,
+      not-formed (profileOf p) acc (record { 0 = f }) (ltb-true f (p .n) h) c lc,
+    )))
+    ∙ sym (output-is p f r c y)
 
 -- a longer input answers as its prefix does
 module _ (m : ℕ) (long : longestInput < m) (input : List ℕ) (h : m ≤ length input) where

@@ -48,8 +48,8 @@ use Rattle.document.specs.Bundle.{
   fresh,
   bundleTests,
 }
-use Rattle.document.specs.Rebuild.{positionOf, givenAt, rebuiltOver, rebuiltOf, rebuildTests, rebuildOf}
-use Rattle.document.specs.Profile.{shapeAccepted, constantAccepted, stripAccepted, profileTests}
+use Rattle.document.specs.Rebuild.{positionOf, givenAt, rebuiltOver, rebuiltOf, rebuildTests, rebuildWith, rebuildOf}
+use Rattle.document.specs.Profile.{shapeAccepted, constantAccepted, stripAccepted, profileTests, onAccepted}
 use Rattle.document.specs.Bytes.{bytes, byte, number}
 use Rattle.document.specs.Encoding.{
   start,
@@ -61,6 +61,7 @@ use Rattle.document.specs.Encoding.{
   columnOf,
   encoded,
   encodeTests,
+  encodeWith,
   encodeOf,
 }
 use Rattle.document.specs.Plan.{
@@ -73,6 +74,7 @@ use Rattle.document.specs.Plan.{
   plannedAt,
   planBytes,
   planTests,
+  planWith,
   planOf,
 }
 use Rattle.document.specs.Reading.{
@@ -83,6 +85,7 @@ use Rattle.document.specs.Reading.{
   eliminationOf,
   ambiguous,
   readTests,
+  readWith,
   readOf,
 }
 use Rattle.document.specs.Survey.{
@@ -91,6 +94,7 @@ use Rattle.document.specs.Survey.{
   foundFrom,
   resultOf,
   surveyTests,
+  surveyWith,
   surveyOf,
   surveyAnswer,
   outcomeNumber,
@@ -185,13 +189,13 @@ marked =
 
 -- Each marked case gives what document 01 says.
 pub shown : map (λ c. c .gives) marked ≡ map (λ c. c .says) marked
-unfolding marked lent encodeOf encodeTests profileTests shapeAccepted constantAccepted stripAccepted tried
+unfolding marked lent encodeOf encodeWith encodeTests onAccepted profileTests shapeAccepted constantAccepted stripAccepted tried
     answerNumber answerValue encoded laidOut coupledAt constantOf baseAt byteAt start listed sum weight byte
-    number bytes _⊕_ _⊗_ double bitProduct squares inverse ℕ-discrete decLt planOf planTests planned planOver
-    pairsAt planBytes isOwn isDiagonal isOffDiagonal rising rebuildOf rebuildTests bundleTests openedAt formed headed
+    number bytes _⊕_ _⊗_ double bitProduct squares inverse ℕ-discrete decLt planOf planWith planTests planned planOver
+    pairsAt planBytes isOwn isDiagonal isOffDiagonal rising rebuildOf rebuildWith rebuildTests bundleTests openedAt formed headed
     placed fresh placeIn recordingIn stripFieldStart plannedAt slice same all opening twoBytes fourBytes
     profileContent lostContent recordingBytes rebuiltOf rebuiltOver givenAt positionOf samePlace columnOf
-    rebuiltAt rowAt otherAt base factor readOf readTests listAccepted numberOf ambiguous indexOf eliminationOf squareOf
+    rebuiltAt rowAt otherAt base factor readOf readWith readTests listAccepted numberOf ambiguous indexOf eliminationOf squareOf
     lineOf coefficientAt endFrom pivotIn lifted stepped filled multiplierAt addedScaled patched unitSquare unitLine
-    surveyOf surveyTests resultOf foundFrom failsAt firstIn sets setAt surveyAnswer outcomeNumber positionIn lookedIn
+    surveyOf surveyWith surveyTests resultOf foundFrom failsAt firstIn sets setAt surveyAnswer outcomeNumber positionIn lookedIn
 shown = refl

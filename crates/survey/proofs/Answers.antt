@@ -6,18 +6,12 @@ use native.Mathlib.Omega.{arith}
 use lib.ListN.{length}
 use borrow.Author.Tests.{lt-ltb, le-ltb, eq-eqb, ne-eqb}
 use Rattle.ksets.specs.Sets.{sets, setAt}
-use Rattle.document.specs.declared.Numbers.{Numbers}
 use Rattle.document.specs.declared.Profile.{Profile}
-use Rattle.document.specs.declared.Refusal.{Refusal}
 use Rattle.document.specs.declared.Refusal.the-variants.{OutOfRange, BufferLength}
-use Rattle.document.specs.declared.Checked.the-variants.{Passed, Rejected}
-use Rattle.document.specs.declared.Surveyed.{Surveyed}
 use Rattle.document.specs.declared.Surveyed.the-variants.{Failing, Done, Open, Refused}
 use Rattle.document.specs.Refusals.{tried}
-use Rattle.document.specs.Profile.{profileOf, checkedOf}
-use Rattle.document.specs.Survey.{failsAt, firstIn, lookedAt, foundFrom, resultOf, surveyTests, surveyOf}
+use Rattle.document.specs.Survey.{failsAt, firstIn, lookedAt, foundFrom, resultOf, surveyTests, surveyWith}
 use Rattle.document.proofs.Surveys.{failingAt, result-failing, result-done, result-open}
-use Rattle.document.proofs.Accepts.{accepted, tried-rejected, tried-accepted}
 
 -- a survey that is not refused, by the number of sets to look at and what the search among them found
 module _ (p : Profile) (start most : ℕ) (x : List ℕ) where
@@ -48,29 +42,16 @@ module _ (p : Profile) (start most : ℕ) (x : List ℕ) where
       left-open e = ap (λ (m : ℕ). (Open m, x)) l ∙ sym (result-open p start most x none (λ d. e (omega (arith, l))))
 
 -- the refusals, in their order
-module _ (p : Numbers) (start most : ℕ) (x : List ℕ) where
-  pub profile-refused : (r : Refusal) → checkedOf p ≡ Rejected r → (Refused r, x) ≡ surveyOf p start most x
-  unfolding surveyOf surveyTests
-  profile-refused r e = sym (tried-rejected p _ _ _ r e)
+module _ (p : Profile) (start most : ℕ) (x : List ℕ) where
+  pub start-refused : sets (p .n) (p .k) < start → (Refused OutOfRange, x) ≡ surveyWith p start most x
+  unfolding surveyWith surveyTests tried
+  start-refused h = sym (simp (lt-ltb _ _ h))
 
-  module _ (q : Profile) (e : checkedOf p ≡ Passed q) where
-    same : q ≡ profileOf p
-    same = accepted p q e .0
+  module _ (h : start ≤ sets (p .n) (p .k)) where
+    pub set-refused : (length x ≡ p .k → ⊥) → (Refused BufferLength, x) ≡ surveyWith p start most x
+    unfolding surveyWith surveyTests tried
+    set-refused w = sym (simp (le-ltb _ _ h, ne-eqb _ _ w))
 
-    pub start-refused : sets (q .n) (q .k) < start → (Refused OutOfRange, x) ≡ surveyOf p start most x
-    unfolding surveyOf surveyTests tried
-    start-refused h = sym (tried-accepted p _ _ _ q e ∙ simp (lt-ltb _ _ (rw same at h)))
-
-    module _ (h : start ≤ sets (q .n) (q .k)) where
-      pub set-refused : (length x ≡ q .k → ⊥) → (Refused BufferLength, x) ≡ surveyOf p start most x
-      unfolding surveyOf surveyTests tried
-      set-refused w = sym (tried-accepted p _ _ _ q e ∙ simp (le-ltb _ _ (rw same at h), ne-eqb _ _ (rw same at w)))
-
-      pub answered : length x ≡ q .k → (z : Surveyed × List ℕ) → z ≡ resultOf q start most x
-          → z ≡ surveyOf p start most x
-      unfolding surveyOf surveyTests tried
-      answered w z f =
-          f
-          ∙ sym (tried-accepted p _ _ _ q e
-          ∙ simp (le-ltb _ _ (rw same at h), eq-eqb _ _ (rw same at w))
-          (ap (λ (r : Profile). resultOf r start most x) (sym same)))
+    pub answered : length x ≡ p .k → resultOf p start most x ≡ surveyWith p start most x
+    unfolding surveyWith surveyTests tried
+    answered w = sym (simp (le-ltb _ _ h, eq-eqb _ _ w))

@@ -5,7 +5,7 @@ ghost use lib.ListN.{length};
 ghost use Rattle.ksets.specs.Sets.{sets, setAt, Rising};
 ghost use Rattle.document.specs.Profile.{Accepted};
 ghost use Rattle.document.specs.Reading.{ambiguous};
-ghost use Rattle.document.specs.Survey.{resultOf, surveyOf};
+ghost use Rattle.document.specs.Survey.{resultOf, surveyWith, surveyOf};
 ghost use Rattle.survey.specs.Steps.{Found};
 use document::Checked;
 use document::Numbers;
@@ -100,6 +100,21 @@ fn survey_from(p: Profile, start: usize, most: usize, total: usize, set: &mut [u
     Surveyed::Open(looked)
 }
 
+// Surveys with an accepted profile.
+fn survey_with(p: Profile, start: usize, most: usize, set: &mut [u8]) -> Surveyed
+    requires { ⌜ Accepted p ⌝ }
+    ensures { λ r. ⌜ (r, now (set .exit)) ≡ surveyWith p start most (now (set .entry)) ⌝ }
+{
+    let total = ksets::count(p.n, p.k);
+    if total < start {
+        return Surveyed::Refused(Refusal::OutOfRange);
+    }
+    if set.len() != p.k {
+        return Surveyed::Refused(Refusal::BufferLength);
+    }
+    survey_from(p, start, most, total, set)
+}
+
 // Looks at the sets of k nodes from the position `start` on, at most `most` of them. The set is written where it fails,
 // and stays as it was otherwise.
 pub fn survey(p: Numbers, start: usize, most: usize, set: &mut [u8]) -> Surveyed
@@ -108,15 +123,6 @@ pub fn survey(p: Numbers, start: usize, most: usize, set: &mut [u8]) -> Surveyed
     let checked = Profile::new(p);
     match checked {
         Checked::Rejected(r) => Surveyed::Refused(r),
-        Checked::Passed(q) => {
-            let total = ksets::count(q.n, q.k);
-            if total < start {
-                return Surveyed::Refused(Refusal::OutOfRange);
-            }
-            if set.len() != q.k {
-                return Surveyed::Refused(Refusal::BufferLength);
-            }
-            survey_from(q, start, most, total, set)
-        }
+        Checked::Passed(q) => survey_with(q, start, most, set),
     }
 }

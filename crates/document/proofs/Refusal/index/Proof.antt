@@ -1,39 +1,26 @@
--- `Refusal::index` meets its contract: each arm is a line of `indexOf`.
-use mathlib.Core.Path.{sym, ap}
-use Rattle.document.specs.Refusals.{indexOf}
+-- `Refusal::index` meets its contract: a refusal that is not named comes with 0.
+use mathlib.Core.Path.{_≡_, refl, sym, ap}
+use mathlib.Core.List.{[], _∷_}
+use denote.Enum.Declared.{tagOf}
+use types.Run.{OneOf, miss}
 use borrow.Author.Needs.{needs}
+use Rattle.document.specs.declared.Refusal.{Refusal}
+use Rattle.document.specs.declared.Refusal.the-variants.{
+  Shape,
+  Constant,
+  StripLength,
+  OutOfRange,
+  BufferLength,
+  BundleForm,
+  BundleHead,
+  Misplaced,
+  Stale,
+  Ambiguous,
+}
+use Rattle.document.specs.Refusals.{indexOf}
+use Rattle.document.proofs.Refusal.{the-type}
 use Rattle.document.proofs.Refusal.index.Statement.{statement}
 use Rattle.document.proofs.Refusal.index.Tie as tie
-
-enum-known-self : tie.Need-enum-known-self
-enum-known-self c = search needs
-
-enum-known-self-2 : tie.Need-enum-known-self-2
-enum-known-self-2 c = search needs
-
-enum-told : tie.Need-enum-told
-enum-told c = search needs
-
-enum-told-2 : tie.Need-enum-told-2
-enum-told-2 c = search needs
-
-enum-told-3 : tie.Need-enum-told-3
-enum-told-3 c = search needs
-
-enum-told-4 : tie.Need-enum-told-4
-enum-told-4 c = search needs
-
-enum-told-5 : tie.Need-enum-told-5
-enum-told-5 c = search needs
-
-enum-told-6 : tie.Need-enum-told-6
-enum-told-6 c = search needs
-
-enum-told-7 : tie.Need-enum-told-7
-enum-told-7 c = search needs
-
-enum-told-8 : tie.Need-enum-told-8
-enum-told-8 c = search needs
 
 returns : tie.Need-returns
 unfolding indexOf
@@ -45,57 +32,19 @@ returns-2 c = sym (ap indexOf (c .before .self2 .given .1))
 
 returns-3 : tie.Need-returns-3
 unfolding indexOf
-returns-3 c = sym (ap indexOf (c .enum-told .given .1))
-
-returns-4 : tie.Need-returns-4
-unfolding indexOf
-returns-4 c = sym (ap indexOf (c .enum-told2 .given .1))
-
-returns-5 : tie.Need-returns-5
-unfolding indexOf
-returns-5 c = sym (ap indexOf (c .enum-told3 .given .1))
-
-returns-6 : tie.Need-returns-6
-unfolding indexOf
-returns-6 c = sym (ap indexOf (c .enum-told4 .given .1))
-
-returns-7 : tie.Need-returns-7
-unfolding indexOf
-returns-7 c = sym (ap indexOf (c .enum-told5 .given .1))
-
-returns-8 : tie.Need-returns-8
-unfolding indexOf
-returns-8 c = sym (ap indexOf (c .enum-told6 .given .1))
-
-returns-9 : tie.Need-returns-9
-unfolding indexOf
-returns-9 c = sym (ap indexOf (c .enum-told7 .given .1))
-
-returns-10 : tie.Need-returns-10
-unfolding indexOf
-returns-10 c = sym (ap indexOf (c .enum-told8 .given .1))
+returns-3 c = go (c .before .args .self) (c .match .keys3)
+  where
+    go : (r : Refusal) → OneOf (0 ∷ 1 ∷ 2 ∷ 3 ∷ 4 ∷ 5 ∷ 6 ∷ 9 ∷ []) (tagOf the-type r) → 0 ≡ indexOf r
+    go Shape k = refl
+    go Constant k = refl
+    go StripLength k = refl
+    go OutOfRange k = refl
+    go BufferLength k = refl
+    go BundleForm k = refl
+    go BundleHead k = refl
+    go (Misplaced i) k = absurd (miss (0 ∷ 1 ∷ 2 ∷ 3 ∷ 4 ∷ 5 ∷ 6 ∷ 9 ∷ []) 7 tt k)
+    go (Stale i) k = absurd (miss (0 ∷ 1 ∷ 2 ∷ 3 ∷ 4 ∷ 5 ∷ 6 ∷ 9 ∷ []) 8 tt k)
+    go Ambiguous k = refl
 
 pub index-spec : {M : Type 1} → statement M
-index-spec =
-    tie.close
-    (tie.spec
-    enum-known-self
-    enum-known-self-2
-    enum-told
-    enum-told-2
-    enum-told-3
-    enum-told-4
-    enum-told-5
-    enum-told-6
-    enum-told-7
-    enum-told-8
-    returns
-    returns-2
-    returns-3
-    returns-4
-    returns-5
-    returns-6
-    returns-7
-    returns-8
-    returns-9
-    returns-10)
+index-spec = tie.close (tie.spec (λ c. search needs) (λ c. search needs) returns returns-2 returns-3)
