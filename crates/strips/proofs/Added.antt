@@ -13,9 +13,8 @@ use Rattle.lists.specs.Listed.{listed, patched}
 use Rattle.lists.proofs.Listed.{listed-length, listed-at, listed-ext}
 use Rattle.lists.proofs.Patched.{patched-ext, patched-length, patched-in, patched-out}
 use Rattle.gf256.specs.Field.{_⊕_, _⊗_, double}
-use Rattle.gf256.proofs.Ring.{add-zero, add-assoc, mul-zero, zero-mul, one-mul, mul-comm}
+use Rattle.gf256.proofs.Ring.{add-zero, add-assoc, mul-zero, zero-mul, one-mul, mul-turn}
 use Rattle.strips.specs.Strips.{stripAt, addedScaled, addedStrip, doubledStrip}
-use Rattle.strips.proofs.Byte.{mul-turn}
 
 -- a part written anew
 patched-again : (at m : ℕ) (f g : ℕ → ℕ) (x : List ℕ) → patched at m f (patched at m g x) ≡ patched at m f x
@@ -64,9 +63,7 @@ added-zero at ys xs =
 module _ (at y : ℕ) (s x : List ℕ) (small : y < 256) (fits : at + length s ≤ length x) where
   bit-at : (a v : ℕ) → (a ⊕ ((y % 2) ⊗ v)) ⊕ ((y / 2) ⊗ double v) ≡ a ⊕ (y ⊗ v)
   bit-at a v =
-      add-assoc a ((y % 2) ⊗ v) ((y / 2) ⊗ double v)
-      ∙ ap (λ (z : ℕ). a ⊕ z) (ap₂ _⊕_ (mul-comm (y % 2) v) (mul-comm (y / 2) (double v))
-      ∙ sym (mul-turn v y small) ∙ mul-comm v y)
+      add-assoc a ((y % 2) ⊗ v) ((y / 2) ⊗ double v) ∙ ap (λ (z : ℕ). a ⊕ z) (sym (mul-turn y v small))
 
   pub added-bit : addedScaled (y / 2) at (doubledStrip s) (addedScaled (y % 2) at s x) ≡ addedScaled y at s x
   unfolding addedScaled doubledStrip

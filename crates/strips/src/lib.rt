@@ -3,39 +3,11 @@
 ghost use mathlib.Core.Path.{_≡_};
 ghost use Prim.Native.Nat.{ℕ, _+_, _*_, _%_, _^_, _<_, _≤_};
 ghost use lib.ListN.{length, take, drop, replicate};
-ghost use Rattle.gf256.specs.Field.{_⊗_, double};
 ghost use Rattle.lists.specs.Listed.{listed};
 ghost use Rattle.strips.specs.Strips.{combinationOf, SourcesFit, stripAt, coupledStrips};
 ghost use Rattle.strips.specs.Strips.{addedScaled, addedStrip, doubledStrip};
 ghost use Rattle.strips.specs.Planes.{bitsAt, planeOf, offsetsOf, addedWith, doubledWith};
 ghost use Rattle.strips.specs.Planes.{partOf, addedFour, doubledFour, Alike, Lent};
-
-// The product with 2.
-fn twice(a: u8) -> u8
-    ensures { λ r. ⌜ r ≡ double a ⌝ }
-{
-    let r: u8 = if a >= 128 { 0x1D } else { 0 };
-    (a << 1) ^ r
-}
-
-// The product, by the bits of s: a form that the compiler turns into vectors.
-fn times(c: u8, s: u8) -> u8
-    ensures { λ r. ⌜ r ≡ c ⊗ s ⌝ }
-{
-    let mut r: u8 = 0;
-    let mut x = c;
-    let mut y = s;
-    let mut n: usize = 8;
-    while n > 0 {
-        if (y & 1) == 1 {
-            r = r ^ x;
-        }
-        x = twice(x);
-        y = y >> 1;
-        n -= 1;
-    }
-    r
-}
 
 // Copies the strip of src that starts at `at`.
 pub fn copy(dst: &mut [u8], src: &[u8], at: usize)
@@ -68,7 +40,7 @@ pub fn add_scaled(x: &mut [u8], at: usize, src: &[u8], c: u8)
 {
     let mut b: usize = 0;
     while b < src.len() {
-        x[at + b] = x[at + b] ^ times(c, src[b]);
+        x[at + b] = x[at + b] ^ gf256::times(c, src[b]);
         b += 1;
     }
 }
@@ -79,7 +51,7 @@ fn double_strip(strip: &mut [u8])
 {
     let mut b: usize = 0;
     while b < strip.len() {
-        strip[b] = twice(strip[b]);
+        strip[b] = gf256::twice(strip[b]);
         b += 1;
     }
 }
@@ -146,7 +118,7 @@ fn double_add_four(dst: &mut [u8], s0: &[u8], s1: &[u8], s2: &[u8], s3: &[u8])
 {
     let mut b: usize = 0;
     while b < dst.len() {
-        dst[b] = twice(dst[b]) ^ s0[b] ^ s1[b] ^ s2[b] ^ s3[b];
+        dst[b] = gf256::twice(dst[b]) ^ s0[b] ^ s1[b] ^ s2[b] ^ s3[b];
         b += 1;
     }
 }
