@@ -1,6 +1,6 @@
 -- `gf256::times` meets its contract. The loop follows `bitProduct`: the sum so far, with the product of x and the n lowest
 -- bits of y, is the product.
-use mathlib.Core.Path.{_≡_, sym, ap, ap₂, _∙_}
+use mathlib.Core.Path.{_≡_, sym, ap₂, _∙_}
 use mathlib.Core.Logic.{⊎-elim}
 use Prim.Native.Nat.{ℕ, suc, _*_, _/_, _%_, _-_, _<_}
 use native.Mathlib.Nat.{mod-eq-of-lt, mul-zero, mul-one}
@@ -41,15 +41,6 @@ abbrev μ-loop : tie.MeasureT-loop
 loop-holds : tie.Need-loop-holds Inv-loop μ-loop
 loop-holds c = start (c .args .c) (c .args .s) (search needs) (search needs)
 
-twice-requires : tie.Need-twice-requires Inv-loop μ-loop
-twice-requires c κs = search needs
-
-sub-n : tie.Need-sub-n Inv-loop μ-loop
-sub-n c = search needs
-
-loop-less : tie.Need-loop-less Inv-loop μ-loop
-loop-less c = search needs
-
 loop-again : tie.Need-loop-again Inv-loop μ-loop
 unfolding _⊕_
 loop-again c =
@@ -69,4 +60,4 @@ returns c =
 pub times-spec : {M : Type 1} → statement M
 times-spec =
     tie.close
-    (tie.spec Inv-loop μ-loop loop-holds twice-requires sub-n loop-less loop-again returns)
+    (tie.spec Inv-loop μ-loop loop-holds (λ c κs. search needs) (λ c. search needs) (λ c. search needs) loop-again returns)

@@ -19,33 +19,6 @@ abbrev μ-loop : tie.MeasureT-loop
 loop-holds : tie.Need-loop-holds Inv-loop μ-loop
 loop-holds c = written-none _ _
 
-slice-read-doubled-if : tie.Need-slice-read-doubled-if Inv-loop μ-loop
-slice-read-doubled-if c = search needs
-
-doubled-if-requires : tie.Need-doubled-if-requires Inv-loop μ-loop
-doubled-if-requires c κs = search needs
-
-shared-slice-read-dst : tie.Need-shared-slice-read-dst Inv-loop μ-loop
-shared-slice-read-dst c = search needs
-
-shared-slice-read-dst-2 : tie.Need-shared-slice-read-dst-2 Inv-loop μ-loop
-shared-slice-read-dst-2 c = search needs
-
-shared-slice-read-dst-3 : tie.Need-shared-slice-read-dst-3 Inv-loop μ-loop
-shared-slice-read-dst-3 c = search needs
-
-shared-slice-read-dst-4 : tie.Need-shared-slice-read-dst-4 Inv-loop μ-loop
-shared-slice-read-dst-4 c = search needs
-
-slice-write-dst : tie.Need-slice-write-dst Inv-loop μ-loop
-slice-write-dst c = search needs
-
-add-b : tie.Need-add-b Inv-loop μ-loop
-add-b c = search needs
-
-loop-less : tie.Need-loop-less Inv-loop μ-loop
-loop-less c = search needs
-
 loop-again : tie.Need-loop-again Inv-loop μ-loop
 unfolding _⊕_
 loop-again c =
@@ -56,9 +29,6 @@ loop-again c =
     (ap (λ (v : ℕ). sumFour v (g .s0 .now) (g .s1 .now) (g .s2 .now) (g .s3 .now) (l .b))
     (c .before .before .before .before .doubled-if .ensures
     ∙ ap (doubledIf (g .doubled)) (written-next _ (l .b) (g .dst .now) (l .dst) (l .inv) (omega arith))))
-
-same-length : tie.Need-same-length Inv-loop μ-loop
-same-length c = search needs
 
 returns : tie.Need-returns Inv-loop μ-loop
 unfolding addedFour
@@ -73,15 +43,15 @@ add-four-spec =
     Inv-loop
     μ-loop
     loop-holds
-    slice-read-doubled-if
-    doubled-if-requires
-    shared-slice-read-dst
-    shared-slice-read-dst-2
-    shared-slice-read-dst-3
-    shared-slice-read-dst-4
-    slice-write-dst
-    add-b
-    loop-less
+    (λ c. search needs)
+    (λ c κs. search needs)
+    (λ c. search needs)
+    (λ c. search needs)
+    (λ c. search needs)
+    (λ c. search needs)
+    (λ c. search needs)
+    (λ c. search needs)
+    (λ c. search needs)
     loop-again
-    same-length
+    (λ c. search needs)
     returns)

@@ -19,21 +19,6 @@ abbrev μ-loop : tie.MeasureT-loop
 loop-holds : tie.Need-loop-holds Inv-loop μ-loop
 loop-holds c = written-none _ _
 
-slice-read-twice : tie.Need-slice-read-twice Inv-loop μ-loop
-slice-read-twice c = search needs
-
-twice-requires : tie.Need-twice-requires Inv-loop μ-loop
-twice-requires c κs = search needs
-
-slice-write-strip : tie.Need-slice-write-strip Inv-loop μ-loop
-slice-write-strip c = search needs
-
-add-b : tie.Need-add-b Inv-loop μ-loop
-add-b c = search needs
-
-loop-less : tie.Need-loop-less Inv-loop μ-loop
-loop-less c = search needs
-
 loop-again : tie.Need-loop-again Inv-loop μ-loop
 loop-again c =
     let w = c .before .before .before in
@@ -41,9 +26,6 @@ loop-again c =
     let g = w .before .before .args in
     written-more _ (l .b) (g .strip .now) (l .strip) (l .inv) (omega arith) _
     (c .twice .ensures ∙ ap double (written-next _ (l .b) (g .strip .now) (l .strip) (l .inv) (omega arith)))
-
-same-length : tie.Need-same-length Inv-loop μ-loop
-same-length c = search needs
 
 returns : tie.Need-returns Inv-loop μ-loop
 unfolding doubledStrip
@@ -58,11 +40,11 @@ double-strip-spec =
     Inv-loop
     μ-loop
     loop-holds
-    slice-read-twice
-    twice-requires
-    slice-write-strip
-    add-b
-    loop-less
+    (λ c. search needs)
+    (λ c κs. search needs)
+    (λ c. search needs)
+    (λ c. search needs)
+    (λ c. search needs)
     loop-again
-    same-length
+    (λ c. search needs)
     returns)

@@ -8,27 +8,6 @@ use borrow.Author.Needs.{needs}
 use Rattle.strips.proofs.pass.Statement.{statement}
 use Rattle.strips.proofs.pass.Tie as tie
 
-part-requires : tie.Need-part-requires
-part-requires c κs = search needs
-
-add-part : tie.Need-add-part
-add-part c = search needs
-
-part-requires-2 : tie.Need-part-requires-2
-part-requires-2 c κs = search needs
-
-add-part-2 : tie.Need-add-part-2
-add-part-2 c = search needs
-
-part-requires-3 : tie.Need-part-requires-3
-part-requires-3 c κs = search needs
-
-add-part-3 : tie.Need-add-part-3
-add-part-3 c = search needs
-
-part-requires-4 : tie.Need-part-requires-4
-part-requires-4 c κs = search needs
-
 add-four-requires : tie.Need-add-four-requires
 add-four-requires c κs =
     let g = c .before .before .before .before .before .before .before .before .before .args in
@@ -41,9 +20,6 @@ add-four-requires c κs =
       same3 = cc (size (g .j + 3));
     }
 
-same-length : tie.Need-same-length
-same-length c = search needs
-
 returns : tie.Need-returns
 returns c =
     let g = c .before .before .before .before .before .before .before .before .before .before .before .before .args in
@@ -53,13 +29,13 @@ pub pass-spec : {M : Type 1} → statement M
 pass-spec =
     tie.close
     (tie.spec
-    part-requires
-    add-part
-    part-requires-2
-    add-part-2
-    part-requires-3
-    add-part-3
-    part-requires-4
+    (λ c κs. search needs)
+    (λ c. search needs)
+    (λ c κs. search needs)
+    (λ c. search needs)
+    (λ c κs. search needs)
+    (λ c. search needs)
+    (λ c κs. search needs)
     add-four-requires
-    same-length
+    (λ c. search needs)
     returns)
