@@ -1,21 +1,20 @@
--- The laws of the elimination, one column at a time.
-use mathlib.Core.Path.{_≡_, refl, sym, ap, ap₂, _∙_}
-use mathlib.Core.Bool.{cond}
+-- The laws of the elimination, one column at a time, and the loop over the columns.
+use mathlib.Core.Path.{_≡_, sym, ap, ap₂, _∙_}
 use mathlib.Core.List.{List}
-use Prim.Native.Nat.{ℕ, zero, suc, _+_, _-_, _≤_, _<_}
+use Prim.Native.Nat.{ℕ, suc, _+_, _-_, _%_, _≤_, _<_, zero-le}
 use native.Mathlib.Numerals.{add-one}
 use native.Mathlib.Omega.{arith}
-use lib.Dec.{eqb}
-use lib.ListN.{getD, set}
-use Rattle.gf256.specs.Field.{_⊕_, _⊗_, inverse}
+use lib.ListN.{getD}
 use Rattle.square.specs.declared.Line.{Line}
+use Rattle.square.specs.declared.Left.{Left}
 use Rattle.square.specs.declared.Pivot.{Pivot}
 use Rattle.square.specs.declared.Pivot.the-variants.{At, Missing}
 use Rattle.square.specs.Steps.{stepped, lifted, multiplierAt, pivotFrom}
-use Rattle.square.specs.Elimination.{Ended, clearing, endFrom, verdictAndLines, whole, stuck}
-use Rattle.square.specs.Columns.{EntriesOf}
+use Rattle.square.specs.Elimination.{Ended, clearing, endFrom, eliminated, whole, stuck}
+use Rattle.square.specs.Columns.{EntriesOf, Multipliers, Cleared}
 use Rattle.square.proofs.Steps.{left-next, stepped-ext}
-use Rattle.square.proofs.Columns.{liftedLine, lifted-set, multiplier-of}
+use Rattle.square.proofs.Pivots.{Pivoted, pivoted}
+use Rattle.square.proofs.Columns.{multiplier-of}
 
 module _ (rows r : ℕ) (a t : List Line) where
   pub end-at : (n p : ℕ) → pivotFrom a r r rows ≡ At p
@@ -27,48 +26,66 @@ module _ (rows r : ℕ) (a t : List Line) where
   unfolding endFrom
   end-stuck n e = rw e
 
-  -- ---- the same as a loop counts: column r of `columns`
-  pub end-next : (columns p : ℕ) → r < columns → pivotFrom a r r rows ≡ At p
-      → endFrom rows (columns - r) r a t
-      ≡ clearing rows r (endFrom rows (columns - (r + 1)) (r + 1)) (lifted r p a) (lifted r p t)
-  end-next columns p h e = rw (left-next r columns h) (rw (add-one r) (end-at (columns - suc r) p e))
+-- ---- the loop over the columns: the elimination that is left, from column r on, ends as the whole one does
+pub record Reached (rows columns r : ℕ) (a : Left) (t : List Line) (end : Ended) : Type 0 where
+  pub small : (rows ≤ 80) × (columns ≤ 80)
+  pub passed : r ≤ columns
+  pub rest : endFrom rows (columns - r) r (a .lines) t ≡ end
+  pub entries : EntriesOf (a .lines) (r % 80) rows (a .entries)
 
-  -- a turn of the loop: the multipliers are computed from the lifted line y and the entries of the others
-  pub end-turn : (columns : ℕ) {p : ℕ} {es y : List ℕ} {a' t' : List Line} (f : ℕ → ℕ) → r < columns
-      → pivotFrom a r r rows ≡ At p → EntriesOf a r rows es → y ≡ liftedLine a r p
-      → ((i : ℕ) → i < rows
-      → f i ≡ cond (eqb i r) (1 ⊕ inverse (getD y r 0)) (inverse (getD y r 0) ⊗ getD es i 0))
-      → a' ≡ stepped f r (set a r (record { c = y })) rows → t' ≡ stepped f r (lifted r p t) rows
-      → endFrom rows (columns - (r + 1)) (r + 1) a' t' ≡ endFrom rows (columns - r) r a t
-  end-turn columns {p} {es} {y} f h e k ey ef ea et =
-      let next : List Line → List Line → Ended = endFrom rows (columns - (r + 1)) (r + 1) in
-      let b : List Line = set a r (record { c = y }) in
-      let u : List Line = lifted r p t in
-      let same : (i : ℕ) → i < rows → f i ≡ multiplierAt b r r i =
-      λ i l. ef i l ∙ multiplier-of a r p r rows es y k ey i l in
-      ap₂ next (ea ∙ stepped-ext f (multiplierAt b r r) r b rows same) (et ∙ stepped-ext f (multiplierAt b r r) r u rows same)
-      ∙ ap (λ (x : List Line). clearing rows r next x u)
-      (ap (λ (x : List ℕ). set a r (record { c = x })) ey ∙ lifted-set a r p)
-      ∙ sym (end-next columns p h e)
+pub reached-none : {rows columns : ℕ} {a : Left} {t : List Line} → (rows ≤ 80) × (columns ≤ 80)
+    → EntriesOf (a .lines) 0 rows (a .entries) → Reached rows columns 0 a t (eliminated rows columns (a .lines) t)
+reached-none {rows} {columns} {a} {t} few h =
+    let e : columns - 0 ≡ columns = omega arith in
+    record {
+      small = few;
+      passed = zero-le;
+      rest = ap (λ (n : ℕ). endFrom rows n 0 (a .lines) t) e;
+      entries = h;
+    }
 
-  pub end-none : (columns : ℕ) → r < columns → pivotFrom a r r rows ≡ Missing
-      → endFrom rows (columns - r) r a t ≡ stuck r a
-  end-none columns h e = rw (left-next r columns h) (end-stuck (columns - (r + 1)) e)
-
-  pub end-all : (columns : ℕ) → columns ≤ r → endFrom rows (columns - r) r a t ≡ whole t
+module _ {rows columns r : ℕ} {a : Left} {t : List Line} {end : Ended} (w : Reached rows columns r a t end) where
+  pub reached-all : columns ≤ r → whole t ≡ end
   unfolding endFrom
-  end-all columns h = let z : columns - r ≡ 0 = omega arith in rw z
+  reached-all h = let z : columns - r ≡ 0 = omega arith in rw z at (w .rest)
 
--- the verdict does not turn on the right half
-pub verdict-alone : (rows n r : ℕ) (a t u : List Line)
-    → verdictAndLines (endFrom rows n r a t) .verdict ≡ verdictAndLines (endFrom rows n r a u) .verdict
-unfolding endFrom
-verdict-alone rows zero r a t u = refl
-verdict-alone rows (suc n) r a t u = go (pivotFrom a r r rows) refl (verdict-alone rows n (suc r))
-  where
-    go : (x : Pivot) → pivotFrom a r r rows ≡ x
-        → ((a t u : List Line)
-        → verdictAndLines (endFrom rows n (suc r) a t) .verdict ≡ verdictAndLines (endFrom rows n (suc r) a u) .verdict)
-        → verdictAndLines (endFrom rows (suc n) r a t) .verdict ≡ verdictAndLines (endFrom rows (suc n) r a u) .verdict
-    go (At p) h next = rw (end-at rows r a t n p h, end-at rows r a u n p h) (next _ _ _)
-    go Missing h next = rw (end-stuck rows r a t n h, end-stuck rows r a u n h)
+  -- x is what the search in the entries finds
+  module _ (h : r < columns) {x : Pivot}
+      (finds : (s : List Line) (j : ℕ) → EntriesOf s j rows (a .entries) → x ≡ pivotFrom s j r rows) where
+    column : EntriesOf (a .lines) r rows (a .entries)
+    column = let m : r % 80 ≡ r = omega arith in rw m at (w .entries)
+
+    found : {y : Pivot} → x ≡ y → pivotFrom (a .lines) r r rows ≡ y
+    found e = sym (finds (a .lines) r column) ∙ e
+
+    pub reached-stuck : x ≡ Missing → stuck r (a .lines) ≡ end
+    reached-stuck e =
+        sym (rw (left-next r columns h) (end-stuck rows r (a .lines) t (columns - (r + 1)) (found e))) ∙ w .rest
+
+    module _ {p : ℕ} (e : x ≡ At p) where
+      pivot : Pivoted (a .lines) r r rows p
+      pivot = pivoted (a .lines) r r rows p (found e)
+
+      pub reached-below : p < 80
+      reached-below = omega (arith, pivot .high)
+
+      -- b is the square with column r cleared by the multipliers c, u the right half after the same step
+      pub reached-next : {c : List ℕ} {b : Left} {u : List Line}
+          → Multipliers (a .entries) r (getD (a .entries) p 0) c
+          → Cleared (λ i. getD c i 0) r rows (lifted r p (a .lines)) b
+          → u ≡ stepped (λ i. getD c i 0) r (lifted r p t) rows → Reached rows columns (r + 1) b u end
+      reached-next {c} f k g =
+          let m : ℕ → ℕ = multiplierAt (lifted r p (a .lines)) r r in
+          let same : (i : ℕ) → i < rows → getD c i 0 ≡ m i =
+          λ i l. f .at i (omega (arith, w .small)) ∙ multiplier-of (a .lines) r p column pivot i l in
+          record {
+            small = w .small;
+            passed = omega arith;
+            rest = ap₂ (endFrom rows (columns - (r + 1)) (r + 1))
+                (k .lines ∙ stepped-ext _ m r (lifted r p (a .lines)) rows same)
+                (g ∙ stepped-ext _ m r (lifted r p t) rows same)
+                ∙ sym (rw (left-next r columns h)
+                (rw (add-one r) (end-at rows r (a .lines) t (columns - suc r) p (found e))))
+                ∙ w .rest;
+            entries = k .entries;
+          }

@@ -9,7 +9,7 @@ use native.Mathlib.Nat.{not-suc-le-zero}
 use native.Mathlib.Omega.{arith}
 use lib.Dec.{eqb}
 use lib.ListN.{length, getD, set, replicate, length-set, length-replicate, getD-replicate}
-use lib.Seq.{ext-getD, getD-set-same, getD-set-other, set-getD}
+use lib.Seq.{ext-getD, getD-set-same, getD-set-other}
 use borrow.Author.Tests.{eq-eqb, ne-eqb}
 use Rattle.lists.specs.Listed.{listed}
 use Rattle.lists.proofs.Listed.{listed-length, listed-at}
@@ -41,12 +41,6 @@ module _ {X : Type 0} (f : ℕ → X) (l : List X) where
   filled-rest zero i d h = refl
   filled-rest (suc n) i d h =
       getD-set-other (filled f l n) n i (f n) d (omega arith) ∙ filled-rest n i d (omega arith)
-
-  -- an entry that need not be written
-  pub filled-skip : (n : ℕ) (d : X) → f n ≡ getD l n d → filled f l n ≡ filled f l (n + 1)
-  filled-skip n d e =
-      sym (ap (set (filled f l n) n) (e ∙ sym (filled-rest n n d (omega arith))) ∙ set-getD (filled f l n) n d)
-      ∙ filled-next n
 
   pub filled-at : (n i : ℕ) (d : X) → i < n → n ≤ length l → getD (filled f l n) i d ≡ f i
   unfolding filled

@@ -1,19 +1,37 @@
 -- A column's entries, kept beside the square.
 --
--- EntriesOf s j rows e : e holds the entries of column j in the lines of s below rows
--- Cleared c r rows b z : z is b after the step that adds c i times line r to each line i below rows, with the entries of
---                        the column after r; of column 0 past the last of 80
+-- Holds x j v           : v is the entry of the line x in column j, which x reaches, and a byte
+-- Gathered f j rows i e : e has room for rows entries, and holds those in column j of the first i of the lines f 0, f 1, ..
+-- EntriesOf s j rows e  : e holds the entries of column j in the lines of s below rows
+-- Multipliers e r v c   : c i is what line i is given of line r, so that the column with the entries e has 1 in line r,
+--                         where the pivot is v, and 0 elsewhere
+-- Cleared c r rows b z  : z is b after the step that adds c i times line r to each line i below rows, with the entries of
+--                         the column after r; of column 0 past the last of 80
 use mathlib.Core.Path.{_≡_}
+use mathlib.Core.Bool.{cond}
 use mathlib.Core.List.{List}
 use Prim.Native.Nat.{ℕ, _+_, _%_, _≤_, _<_}
+use lib.Dec.{eqb}
 use lib.ListN.{length, getD}
+use Rattle.gf256.specs.Field.{_⊕_, _⊗_, inverse}
 use Rattle.square.specs.declared.Line.{Line}
 use Rattle.square.specs.declared.Left.{Left}
-use Rattle.square.specs.Steps.{entry, stepped}
+use Rattle.square.specs.Steps.{lineAt, stepped}
 
-pub record EntriesOf (s : List Line) (j rows : ℕ) (e : List ℕ) : Type 0 where
+pub record Holds (x : List ℕ) (j v : ℕ) : Type 0 where
+  pub value : v ≡ getD x j 0
+  pub within : j < length x
+  pub byte : v < 256
+
+pub record Gathered (f : ℕ → List ℕ) (j rows i : ℕ) (e : List ℕ) : Type 0 where
   pub room : rows ≤ length e
-  pub same : (i : ℕ) → i < rows → getD e i 0 ≡ entry s i j
+  pub held : (k : ℕ) → k < i → Holds (f k) j (getD e k 0)
+
+abbrev pub EntriesOf : List Line → ℕ → ℕ → List ℕ → Type 0
+EntriesOf s j rows e = Gathered (lineAt s) j rows rows e
+
+pub record Multipliers (e : List ℕ) (r v : ℕ) (c : List ℕ) : Type 0 where
+  pub at : (i : ℕ) → i < 80 → getD c i 0 ≡ cond (eqb i r) (1 ⊕ inverse v) (inverse v ⊗ getD e i 0)
 
 pub record Cleared (c : ℕ → ℕ) (r rows : ℕ) (b : List Line) (z : Left) : Type 0 where
   pub lines : z .lines ≡ stepped c r b rows

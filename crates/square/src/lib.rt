@@ -4,14 +4,13 @@
 ghost use mathlib.Core.Path.{_≡_};
 ghost use mathlib.Core.Bool.{cond};
 ghost use mathlib.Core.List.{List};
-ghost use Prim.Native.Nat.{ℕ, _≤_, _<_};
-ghost use lib.ListN.{length, getD, set};
+ghost use Prim.Native.Nat.{ℕ, _+_, _%_, _≤_, _<_};
+ghost use lib.ListN.{length, getD};
 ghost use lib.Dec.{eqb};
-ghost use Rattle.gf256.specs.Field.{_⊕_, _⊗_, inverse};
 ghost use Rattle.strips.specs.Strips.{addedScaled};
-ghost use Rattle.square.specs.Steps.{lineAt, stepped, lifted, pivotFrom, unitLine, unitSquare};
+ghost use Rattle.square.specs.Steps.{stepped, lifted, pivotFrom, unitSquare};
 ghost use Rattle.square.specs.Elimination.{eliminated, verdictAndLines};
-ghost use Rattle.square.specs.Columns.{EntriesOf, Cleared};
+ghost use Rattle.square.specs.Columns.{Holds, EntriesOf, Multipliers, Cleared};
 
 // One line: the coefficients of one equation.
 pub struct Line {
@@ -43,6 +42,14 @@ struct Left {
 pub struct Eliminated {
     pub verdict: Verdict,
     pub lines: [Line; 80],
+}
+
+// The entry in column j.
+fn entry_at(x: Line, j: usize) -> u8
+    requires { ⌜ j < 80 ⌝ }
+    ensures { λ v. ⌜ Holds (x .c) j v ⌝ }
+{
+    x.c[j]
 }
 
 // The line x + f·y.
@@ -84,8 +91,7 @@ fn find_pivot(entries: [u8; 80], from: usize, rows: usize) -> Pivot
 // pivot, and in line r itself what makes the pivot 1.
 fn multipliers(entries: [u8; 80], r: usize, pivot: u8) -> [u8; 80]
     requires { ⌜ r < 80 ⌝ }
-    ensures { λ z. ⌜ ((i : ℕ) → i < 80
-        → getD z i 0 ≡ cond (eqb i r) (1 ⊕ inverse pivot) (inverse pivot ⊗ getD entries i 0)) ⌝ }
+    ensures { λ z. ⌜ Multipliers entries r pivot z ⌝ }
 {
     let v = gf256::inverse(pivot);
     let mut z = [0u8; 80];
@@ -94,16 +100,30 @@ fn multipliers(entries: [u8; 80], r: usize, pivot: u8) -> [u8; 80]
     z
 }
 
-// Line r becomes y, and to each line i below `rows` is added c(i) times y; a line with the multiplier 0 is left alone.
-// Past the last column the entries are those of column 0, which nobody asks for.
-fn clear(s: Left, r: usize, y: Line, c: [u8; 80], rows: usize) -> Left
-    requires { ⌜ (r < 80) × (rows ≤ 80) × (rows ≤ length (s .entries)) ⌝ }
-    requires { ⌜ length (y .c) ≡ length (lineAt (s .lines) r) ⌝ }
-    ensures { λ z. ⌜ Cleared (λ i. getD c i 0) r rows (set (s .lines) r y) z ⌝ }
+// The column after r; column 0 past the last of 80.
+fn after(r: usize) -> usize
+    requires { ⌜ r < 80 ⌝ }
+    ensures { λ j. ⌜ j ≡ (r + 1) % 80 ⌝ }
+{
+    if r == 79 {
+        return 0;
+    }
+    r + 1
+}
+
+// Line r is lifted by line p, and to each line i below `rows` is added c(i) times line r; a line with the multiplier 0 is
+// left alone. The entries past the last column nobody asks for. Lines are read from the copy: read from s, they would make
+// the compiler copy the square once more.
+fn clear(s: Left, r: usize, p: usize, c: [u8; 80], rows: usize) -> Left
+    requires { ⌜ (r < 80) × (p < 80) × (rows ≤ 80) × (rows ≤ length (s .entries)) ⌝ }
+    ensures { λ z. ⌜ Cleared (λ i. getD c i 0) r rows (lifted r p (s .lines)) z ⌝ }
 {
     let mut z = s;
+    let x = z.lines[r];
+    let l = z.lines[p];
+    let y = lifted_line(x, l, r, p);
     z.lines[r] = y;
-    let next = (r + 1) % 80;
+    let next = after(r);
     let mut i: usize = 0;
     while i < rows {
         let u = z.lines[i];
@@ -111,16 +131,18 @@ fn clear(s: Left, r: usize, y: Line, c: [u8; 80], rows: usize) -> Left
         if f != 0 {
             let w = line_added(u, y, f);
             z.lines[i] = w;
-            z.entries[i] = w.c[next];
+            let v = entry_at(w, next);
+            z.entries[i] = v;
         } else {
-            z.entries[i] = u.c[next];
+            let v = entry_at(u, next);
+            z.entries[i] = v;
         }
         i += 1;
     }
     z
 }
 
-// The same for the right half, whose line r is lifted here. Nobody asks for its entries.
+// The same for the right half, of whose entries nobody asks.
 fn follow(s: [Line; 80], r: usize, p: usize, c: [u8; 80], rows: usize) -> [Line; 80]
     requires { ⌜ (r < 80) × (p < 80) × (rows ≤ 80) ⌝ }
     ensures { λ z. ⌜ z ≡ stepped (λ i. getD c i 0) r (lifted r p s) rows ⌝ }
@@ -143,23 +165,14 @@ fn follow(s: [Line; 80], r: usize, p: usize, c: [u8; 80], rows: usize) -> [Line;
     z
 }
 
-// Line r of the unit square.
-fn unit_line(r: usize) -> Line
-    requires { ⌜ r < 80 ⌝ }
-    ensures { λ z. ⌜ z .c ≡ unitLine 80 r ⌝ }
-{
-    let mut z = [0u8; 80];
-    z[r] = 1;
-    Line { c: z }
-}
-
 fn unit_square() -> [Line; 80]
     ensures { λ z. ⌜ z ≡ unitSquare 80 ⌝ }
 {
     let mut z = [Line { c: [0u8; 80] }; 80];
     let mut i: usize = 0;
     while i < 80 {
-        let w = unit_line(i);
+        let mut w = z[i];
+        w.c[i] = 1;
         z[i] = w;
         i += 1;
     }
@@ -179,7 +192,8 @@ fn started(s: [Line; 80], rows: usize) -> Left
     let mut i: usize = 0;
     while i < rows {
         let x = z.lines[i];
-        z.entries[i] = x.c[0];
+        let v = entry_at(x, 0);
+        z.entries[i] = v;
         i += 1;
     }
     z
@@ -197,14 +211,11 @@ pub fn invert(s: [Line; 80], rows: usize, columns: usize) -> Eliminated
         let e = a.entries;
         match find_pivot(e, r, rows) {
             Pivot::At(p) => {
-                let x = a.lines[r];
-                let l = a.lines[p];
-                let y = lifted_line(x, l, r, p);
-                let c = multipliers(e, r, y.c[r]);
-                let b = clear(a, r, y, c, rows);
-                a = b;
+                let c = multipliers(e, r, e[p]);
                 let u = follow(t, r, p, c, rows);
                 t = u;
+                let b = clear(a, r, p, c, rows);
+                a = b;
             }
             Pivot::Missing => {
                 let lines = a.lines;
@@ -233,11 +244,8 @@ pub fn judge(s: [Line; 80], rows: usize, columns: usize) -> Verdict
         let e = a.entries;
         match find_pivot(e, r, rows) {
             Pivot::At(p) => {
-                let x = a.lines[r];
-                let l = a.lines[p];
-                let y = lifted_line(x, l, r, p);
-                let c = multipliers(e, r, y.c[r]);
-                let b = clear(a, r, y, c, rows);
+                let c = multipliers(e, r, e[p]);
+                let b = clear(a, r, p, c, rows);
                 a = b;
             }
             Pivot::Missing => {

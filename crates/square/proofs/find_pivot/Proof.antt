@@ -30,7 +30,7 @@ returns c =
     let a = c .before .before in
     let i = a .loop .i in
     let k : i < a .before .args .rows = omega arith in
-    λ s j h. sym (pivot-here s j i _ k (λ e. c .if1 .taken (h .same i k ∙ e))) ∙ a .loop .inv s j h
+    λ s j h. sym (pivot-here s j i _ k (λ e. c .if1 .taken (h .held i k .value ∙ e))) ∙ a .loop .inv s j h
 
 add-i : tie.Need-add-i Inv-loop μ-loop
 add-i c = search needs
@@ -43,7 +43,7 @@ loop-again c =
     let a = c .before .before in
     let i = a .loop .i in
     let k : i < a .before .args .rows = omega arith in
-    λ s j h. sym (pivot-next s j i _ k (sym (h .same i k) ∙ c .if1 .left)) ∙ a .loop .inv s j h
+    λ s j h. sym (pivot-next s j i _ k (sym (h .held i k .value) ∙ c .if1 .left)) ∙ a .loop .inv s j h
 
 returns-2 : tie.Need-returns-2 Inv-loop μ-loop
 returns-2 c =

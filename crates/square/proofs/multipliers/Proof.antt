@@ -49,9 +49,11 @@ returns c =
     let a = c .before in
     let n = a .before .before .before in
     let g = n .before .args in
-    λ i l.
-    ap (λ (x : List ℕ). getD (set x (g .r) (1 ⊕ n .inverse .result)) i 0) (a .add-scaled .ensures)
-    ∙ multiplier-at _ (g .r) (n .inverse .result) (g .pivot) 80 (omega arith) (n .inverse .ensures) i l
+    record {
+      at = λ i l.
+          ap (λ (x : List ℕ). getD (set x (g .r) (1 ⊕ n .inverse .result)) i 0) (a .add-scaled .ensures)
+          ∙ multiplier-at _ (g .r) (n .inverse .result) (g .pivot) 80 (omega arith) (n .inverse .ensures) i l;
+    }
 
 pub multipliers-spec : {M : Type 1} → statement M
 multipliers-spec =

@@ -1,18 +1,25 @@
--- `square::unit_square` meets its contract. The loop's invariant: the lines passed are filled in; 80 of them are all.
+-- `square::unit_square` meets its contract. The loop's invariant: the lines passed have their 1, the others are zeros; 80
+-- of them are all.
 use mathlib.Core.Path.{_≡_, ap, ap₂, _∙_}
 use mathlib.Core.List.{List}
-use Prim.Native.Nat.{ℕ, _-_, _≤_}
+use Prim.Native.Nat.{ℕ, _-_, _≤_, _<_}
 use native.Mathlib.Omega.{arith}
-use lib.ListN.{length, set, replicate, length-replicate}
+use lib.ListN.{set, replicate, length-replicate, getD-replicate}
 use Rattle.square.specs.declared.Line.{Line}
-use Rattle.square.specs.Steps.{noLine, filled, unitLine, unitSquare}
-use Rattle.square.proofs.Steps.{filled-none, filled-next, filled-all}
+use Rattle.square.specs.Steps.{noLine, lineAt, filled, unitLine, unitSquare}
+use Rattle.square.proofs.Steps.{filled-none, filled-next, filled-rest, filled-all, unit-line-set}
 use borrow.Author.Needs.{needs}
 use Rattle.square.proofs.unit_square.Statement.{statement}
 use Rattle.square.proofs.unit_square.Tie as tie
 
+abbrev unitAt : ℕ → Line
+unitAt i = record { c = unitLine 80 i }
+
+abbrev zeros : Line
+zeros = record { c = replicate 80 0 }
+
 abbrev Inv-loop : tie.InvT-loop
-Inv-loop z₀ i₀ z i = (i ≤ 80) × (z ≡ filled (λ k. record { c = unitLine 80 k }) z₀ i)
+Inv-loop z₀ i₀ z i = (i ≤ 80) × (z ≡ filled unitAt (replicate 80 zeros) i)
 
 abbrev μ-loop : tie.MeasureT-loop
 μ-loop z₀ i₀ z i = 80 - i
@@ -20,40 +27,31 @@ abbrev μ-loop : tie.MeasureT-loop
 loop-holds : tie.Need-loop-holds Inv-loop μ-loop
 loop-holds c = (search needs, filled-none _ _)
 
-unit-line-requires : tie.Need-unit-line-requires Inv-loop μ-loop
-unit-line-requires c κs = search needs
-
-mul-z : tie.Need-mul-z Inv-loop μ-loop
-mul-z c = search needs
-
-array-set-from-z : tie.Need-array-set-from-z Inv-loop μ-loop
-array-set-from-z c = search needs
-
-add-i : tie.Need-add-i Inv-loop μ-loop
-add-i c = search needs
-
-loop-less : tie.Need-loop-less Inv-loop μ-loop
-loop-less c = search needs
+-- the line to be written next
+next : (z : List Line) (i : ℕ) → i < 80 → z ≡ filled unitAt (replicate 80 zeros) i → set (lineAt z i) i 1 ≡ unitLine 80 i
+next z i h e =
+    ap (λ (x : List ℕ). set x i 1)
+    (ap (λ (x : List Line). lineAt x i) e
+    ∙ ap (λ (x : Line). x .c)
+    (filled-rest unitAt (replicate 80 zeros) i i noLine (omega arith) ∙ getD-replicate 80 i zeros noLine h))
+    ∙ unit-line-set 80 i h
 
 loop-again : tie.Need-loop-again Inv-loop μ-loop
 loop-again c =
-    let a = c .before .before in
-    let i = a .loop .i in (
+    let l = c .before .before .loop in (
       search needs,
-      ap₂ (λ (l : List Line) (k : List ℕ). set l i (record { c = k })) (a .loop .inv .1) (c .unit-line .ensures)
-          ∙ filled-next (λ i. record { c = unitLine 80 i }) _ i,
+      ap₂ (λ (x : List Line) (k : List ℕ). set x (l .i) (record { c = k })) (l .inv .1)
+          (next (l .z) (l .i) (omega arith) (l .inv .1))
+          ∙ filled-next unitAt _ (l .i),
     )
 
 returns : tie.Need-returns Inv-loop μ-loop
 unfolding unitSquare
 returns c =
-    let a = c .before in
-    let e : a .loop .i ≡ 80 = omega arith in
-    let zeros : Line = record { c = replicate 80 0 } in
-    let blank : List Line = replicate 80 zeros in
-    let f : ℕ → Line = λ i. record { c = unitLine 80 i } in
-    let size : length blank ≡ 80 = length-replicate 80 zeros in
-    a .loop .inv .1 ∙ ap (λ (n : ℕ). filled f blank n) e ∙ filled-all f blank 80 noLine size
+    let l = c .before .loop in
+    let e : l .i ≡ 80 = omega arith in
+    l .inv .1 ∙ ap (filled unitAt (replicate 80 zeros)) e
+    ∙ filled-all unitAt (replicate 80 zeros) 80 noLine (length-replicate 80 zeros)
 
 pub unit-square-spec : {M : Type 1} → statement M
 unit-square-spec =
@@ -62,10 +60,12 @@ unit-square-spec =
     Inv-loop
     μ-loop
     loop-holds
-    unit-line-requires
-    mul-z
-    array-set-from-z
-    add-i
-    loop-less
+    (λ c. search needs)
+    (λ c. search needs)
+    (λ c. search needs)
+    (λ c. search needs)
+    (λ c. search needs)
+    (λ c. search needs)
+    (λ c. search needs)
     loop-again
     returns)
