@@ -85,7 +85,7 @@ fn put_recording(out: &mut [u8], at: usize, r: Recording) -> usize
     ensures { λ next. ⌜ Wrote (now (out .entry)) at (recordingBytes r) next (now (out .exit)) ⌝ }
 {
     let bytes = fields::four_bytes(r.scenario);
-    fields::put_bytes(out, at, &bytes)
+    lists::put_bytes(out, at, &bytes)
 }
 
 // The content of field 01: the profile.
@@ -111,9 +111,9 @@ fn put_profile(out: &mut [u8], at: usize, p: Profile) -> usize
     requires { ⌜ Accepted p × (at + (openingLength + profileContentLength) ≤ length (now out)) ⌝ }
     ensures { λ next. ⌜ Wrote (now (out .entry)) at (fieldOf 1 (profileContent p)) next (now (out .exit)) ⌝ }
 {
-    let after_opening = fields::put_bytes(out, at, b"\x01\x00\x06");
+    let after_opening = lists::put_bytes(out, at, b"\x01\x00\x06");
     let content = profile_content(p);
-    fields::put_bytes(out, after_opening, &content)
+    lists::put_bytes(out, after_opening, &content)
 }
 
 // Writes field 02.
@@ -121,9 +121,9 @@ fn put_lost(out: &mut [u8], at: usize, f: Node, r: Recording) -> usize
     requires { ⌜ (f .0 < 256) × (at + (openingLength + lostContentLength) ≤ length (now out)) ⌝ }
     ensures { λ next. ⌜ Wrote (now (out .entry)) at (fieldOf 2 (lostContent f r)) next (now (out .exit)) ⌝ }
 {
-    let after_opening = fields::put_bytes(out, at, b"\x02\x00\x05");
+    let after_opening = lists::put_bytes(out, at, b"\x02\x00\x05");
     let content = lost_content(f, r);
-    fields::put_bytes(out, after_opening, &content)
+    lists::put_bytes(out, after_opening, &content)
 }
 
 // Writes a field 03: a place, the recording, and the array's strip at that place.
@@ -135,10 +135,10 @@ fn put_strip(out: &mut [u8], at: usize, p: Profile, r: Recording, array: &[u8], 
 {
     let after_opening = fields::put_opening(out, at, 3, PLACED + p.s);
     let numbers = [q.node.0 as u8, q.row.0 as u8];
-    let after_place = fields::put_bytes(out, after_opening, &numbers);
+    let after_place = lists::put_bytes(out, after_opening, &numbers);
     let after_recording = put_recording(out, after_place, r);
     let from = p.start(q);
-    fields::put_bytes(out, after_recording, &array[from..from + p.s])
+    lists::put_bytes(out, after_recording, &array[from..from + p.s])
 }
 
 // Writes the fields 03 of the planned places, in plan order.

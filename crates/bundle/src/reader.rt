@@ -30,7 +30,7 @@ fn opened(p: Profile, b: &[u8], i: usize) -> bool
 {
     let length = fields::two_bytes(PLACED + p.s);
     let want = [3u8, length[0], length[1]];
-    fields::same_at(b, strip_field(p, i), &want)
+    lists::same_at(b, strip_field(p, i), &want)
 }
 
 // Whether all fields 03 do.
@@ -57,10 +57,10 @@ fn formed(p: Profile, f: Node, b: &[u8]) -> bool
     if b.len() != strip_field(p, count) {
         return false;
     }
-    if !fields::same_at(b, 0, b"\x01\x00\x06") {
+    if !lists::same_at(b, 0, b"\x01\x00\x06") {
         return false;
     }
-    if !fields::same_at(b, OPENING + PROFILE, b"\x02\x00\x05") {
+    if !lists::same_at(b, OPENING + PROFILE, b"\x02\x00\x05") {
         return false;
     }
     all_opened(p, b, count)
@@ -72,11 +72,11 @@ fn headed(p: Profile, f: Node, r: Recording, b: &[u8]) -> bool
     ensures { λ t. ⌜ t ≡ Bundle.headed p f r (now (b .entry)) ⌝ }
 {
     let profile = profile_content(p);
-    if !fields::same_at(b, OPENING, &profile) {
+    if !lists::same_at(b, OPENING, &profile) {
         return false;
     }
     let lost = lost_content(f, r);
-    fields::same_at(b, OPENING + PROFILE + OPENING, &lost)
+    lists::same_at(b, OPENING + PROFILE + OPENING, &lost)
 }
 
 // Whether strip i has the place that the plan's bytes have for it.
@@ -122,7 +122,7 @@ fn fresh(p: Profile, r: Recording, b: &[u8], i: usize) -> bool
     ensures { λ t. ⌜ t ≡ Bundle.fresh p r (now (b .entry)) i ⌝ }
 {
     let want = fields::four_bytes(r.scenario);
-    fields::same_at(b, strip_field(p, i) + OPENING + 2, &want)
+    lists::same_at(b, strip_field(p, i) + OPENING + 2, &want)
 }
 
 // The first strip of another recording, or the number of strips.

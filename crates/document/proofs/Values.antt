@@ -37,7 +37,7 @@ use Rattle.document.specs.Bundle.{
 }
 use Rattle.document.specs.Rebuild.{rebuildTests, rebuildWith, rebuildOf}
 use Rattle.document.specs.Reading.{readTests, readWith, readOf}
-use Rattle.document.specs.Survey.{resultOf, surveyTests, surveyWith, surveyOf, positionIn, lookedIn}
+use Rattle.document.specs.Survey.{resultOf, surveyTests, surveyWith, surveyOf, failingPosition, lookedIn}
 use Rattle.document.proofs.Decides.{decides-eq, decides-both}
 use Rattle.document.proofs.Accepts.{failed-accepted}
 use Rattle.document.proofs.Price.{few-places}
@@ -91,7 +91,7 @@ small-last (suc n) T h value =
 
 -- what a C host is told of a survey: a position, and a number of sets looked at
 pub record Counted (answer : Surveyed) : Type 0 where
-  pub position : positionIn answer ≤ 2704156
+  pub position : failingPosition answer ≤ 2704156
   pub looked : lookedIn answer ≤ 2704156
 
 module _ (p : Numbers) where
@@ -124,7 +124,7 @@ module _ (p : Numbers) where
 
   -- no position and no number of sets is greater than the number of sets of 24 nodes
   pub survey-counted : (start most : ℕ) (x : List ℕ) → Counted (surveyOf p start most x .0)
-  unfolding surveyOf surveyWith surveyTests positionIn lookedIn indexOf
+  unfolding surveyOf surveyWith surveyTests failingPosition lookedIn indexOf
   survey-counted start most x =
       by-profile (λ (o : Surveyed × List ℕ). Counted (o .0)) (λ r. (surveys.Refused r, x)) _
       (λ r h. record { position = zero-le; looked = zero-le })

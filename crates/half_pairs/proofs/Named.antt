@@ -9,8 +9,8 @@ use Rattle.ksets.specs.Sets.{RisingFrom, none, next, Rising}
 use Rattle.algebra.specs.RowCode.{Choice}
 use Rattle.algebra.specs.HalfPairs.{Positions}
 use Rattle.document.proofs.Reading.{rising-below}
-use Rattle.coefficients.specs.Weights.{positionIn}
-use Rattle.coefficients.proofs.Positions.{position-here, position-later, position-back}
+use Rattle.lists.specs.Positions.{positionIn}
+use Rattle.lists.proofs.Positions.{position-here, position-later, position-back}
 use Rattle.half_pairs.specs.HalfPairs.{positionTable, named}
 
 -- Entries of a rising list are not below its first bound.

@@ -35,7 +35,7 @@ use Rattle.document.proofs.Arrays.{laid-byte}
 use Rattle.document.proofs.Rows.{row-word, row-data}
 use Rattle.document.proofs.Columns.{array, coupled-code, nodes-distinct, encoded-at}
 use Rattle.document.proofs.Reading.{laid-data, data-ext, joined-byte, joined-data, joined-only, two-ambiguous, ambiguous-two}
-use Rattle.coefficients.specs.Weights.{positionIn}
+use Rattle.lists.specs.Positions.{positionIn}
 use Rattle.half_pairs.specs.HalfPairs.{named, isNamed, partnerAt, halfPairs, halfPairAt, systemAt}
 use Rattle.half_pairs.proofs.Named.{named-choice, named-positions}
 use Rattle.half_pairs.proofs.Selected.{sum-rising}

@@ -34,7 +34,7 @@ use Rattle.document.proofs.Bounds.{square-bound}
 use Rattle.document.proofs.Bytes.{number-lt, byte-number, number-zero, number-one, number-add}
 use Rattle.document.proofs.SquareSteps.{matrix, Shaped, unit-square}
 use Rattle.document.proofs.Squares.{singular-kernel, regular}
-use Rattle.coefficients.specs.Weights.{positionIn}
+use Rattle.lists.specs.Positions.{positionIn}
 use Rattle.half_pairs.specs.HalfPairs.{
   named,
   isNamed,

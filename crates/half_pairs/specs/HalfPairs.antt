@@ -39,7 +39,8 @@ use Rattle.document.specs.Places.{partnerOf}
 use Rattle.document.specs.Bytes.{bytes, Byte, byte, number}
 use Rattle.document.specs.Encoding.{factorAt}
 use Rattle.document.specs.Reading.{joinedPlace}
-use Rattle.coefficients.specs.Weights.{positionIn, weightsOf}
+use Rattle.coefficients.specs.Weights.{weightsOf}
+use Rattle.lists.specs.Positions.{positionIn}
 
 infixl 70 _⊗_
 open Field bytes using (𝟘, mul as _⊗_)

@@ -29,7 +29,7 @@ pub fn positions(nodes: &[u8]) -> [u8; 24]
     let mut table = [0u8; 24];
     let mut j: usize = 0;
     while j < 24 {
-        let q = coefficients::position_of(nodes, j);
+        let q = lists::position_of(nodes, j);
         table[j] = q as u8;
         j += 1;
     }
@@ -80,7 +80,7 @@ pub fn list_half_pairs(out: &mut [u8], p: Profile, nodes: &[u8], positions: &[u8
     let mut z: usize = 0;
     while z < count {
         let wanted = is_half_pair(p, nodes, positions, z);
-        next = fields::put_if(out, next, z, wanted);
+        next = lists::put_if(out, next, z, wanted);
         z += 1;
     }
     next

@@ -45,7 +45,8 @@ use Rattle.document.proofs.Columns.{nodes-distinct}
 use Rattle.document.proofs.SquareSteps.{matrix}
 use Rattle.document.proofs.Reading.{read-data, read-columns}
 use Rattle.algebra.specs.Weight.{weight}
-use Rattle.coefficients.specs.Weights.{positionIn, points}
+use Rattle.coefficients.specs.Weights.{points}
+use Rattle.lists.specs.Positions.{positionIn}
 use Rattle.coefficients.proofs.Combination.{sum-bytes}
 use Rattle.coefficients.proofs.Lagrange.{weights-at}
 use Rattle.half_pairs.specs.HalfPairs.{

@@ -24,7 +24,7 @@ use Rattle.document.specs.Bytes.{bytes, Byte, byte, number}
 use Rattle.document.specs.Encoding.{factorAt}
 use Rattle.document.proofs.Bounds.{A>0}
 use Rattle.document.proofs.Bytes.{number-byte}
-use Rattle.coefficients.specs.Weights.{positionIn}
+use Rattle.lists.specs.Positions.{positionIn}
 use Rattle.half_pairs.specs.HalfPairs.{named, partnerAt}
 use Rattle.half_pairs.proofs.Named.{named-positions}
 use Rattle.reading.specs.Steps.{multipleOf, uncoupledStrip, joinedAt, knownStrip}

@@ -251,7 +251,7 @@ fn put_row(
         i,
         &mut coefficients[..k],
     );
-    let at = coefficients::position_of(own, f.0 / p.a * p.a + i);
+    let at = lists::position_of(own, f.0 / p.a * p.a + i);
     sum_row(dst, folded, p, f, i, &coefficients[..k], at);
 }
 

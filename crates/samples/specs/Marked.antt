@@ -98,7 +98,7 @@ use Rattle.document.specs.Survey.{
   surveyOf,
   surveyAnswer,
   outcomeNumber,
-  positionIn,
+  failingPosition,
   lookedIn,
 }
 
@@ -144,7 +144,7 @@ rebuilt f fields = outcome (rebuildOf (profile 2) f (record { scenario = 7 }) (b
 abbrev pub surveyed : ℕ → ℕ → ℕ → List ℕ
 surveyed t start B =
     let o : Surveyed × List ℕ = surveyOf (profile t) start B (lent 2) in
-    answerNumber (surveyAnswer (o .0)) ∷ outcomeNumber (o .0) ∷ positionIn (o .0) ∷ lookedIn (o .0) ∷ o .1
+    answerNumber (surveyAnswer (o .0)) ∷ outcomeNumber (o .0) ∷ failingPosition (o .0) ∷ lookedIn (o .0) ∷ o .1
 
 -- M1 to M12, in document 01's order.
 unfoldable pub marked : List Case
@@ -197,5 +197,5 @@ unfolding marked lent encodeOf encodeWith encodeTests onAccepted profileTests sh
     profileContent lostContent recordingBytes rebuiltOf rebuiltOver givenAt positionOf samePlace columnOf
     rebuiltAt rowAt otherAt base factor readOf readWith readTests listAccepted numberOf ambiguous indexOf eliminationOf squareOf
     lineOf coefficientAt endFrom pivotIn lifted stepped filled multiplierAt addedScaled patched unitSquare unitLine
-    surveyOf surveyWith surveyTests resultOf foundFrom failsAt firstIn sets setAt surveyAnswer outcomeNumber positionIn lookedIn
+    surveyOf surveyWith surveyTests resultOf foundFrom failsAt firstIn sets setAt surveyAnswer outcomeNumber failingPosition lookedIn
 shown = refl

@@ -9,7 +9,7 @@ use lib.ListN.{length, getD}
 use Rattle.document.specs.declared.Place.{Place}
 use Rattle.document.proofs.Bounds.{partner-within}
 use Rattle.document.proofs.Reading.{joined-within}
-use Rattle.coefficients.specs.Weights.{positionIn}
+use Rattle.lists.specs.Positions.{positionIn}
 use Rattle.half_pairs.specs.HalfPairs.{partnerAt}
 use Rattle.half_pairs.proofs.Named.{table-length, table-at}
 use Rattle.half_pairs.proofs.is_half_pair.Statement.{statement}

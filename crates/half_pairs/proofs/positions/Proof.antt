@@ -7,8 +7,8 @@ use borrow.Author.Needs.{needs}
 use lib.ListN.{set, replicate, length-replicate}
 use Rattle.square.specs.Steps.{filled}
 use Rattle.square.proofs.Steps.{filled-none, filled-next, filled-all}
-use Rattle.coefficients.specs.Weights.{positionIn}
-use Rattle.coefficients.proofs.Positions.{position-le}
+use Rattle.lists.specs.Positions.{positionIn}
+use Rattle.lists.proofs.Positions.{position-le}
 use Rattle.half_pairs.specs.HalfPairs.{positionTable}
 use Rattle.half_pairs.proofs.positions.Statement.{statement}
 use Rattle.half_pairs.proofs.positions.Tie as tie

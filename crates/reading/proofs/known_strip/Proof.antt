@@ -18,7 +18,7 @@ use Rattle.document.specs.Bytes.{number}
 use Rattle.document.specs.Encoding.{factorAt}
 use Rattle.document.proofs.Bounds.{room, square-bound, data-bound, partner-within}
 use Rattle.document.proofs.Reading.{joined-within}
-use Rattle.coefficients.specs.Weights.{positionIn}
+use Rattle.lists.specs.Positions.{positionIn}
 use Rattle.half_pairs.specs.HalfPairs.{named, partnerAt}
 use Rattle.half_pairs.proofs.Named.{table-length, table-at}
 use Rattle.reading.specs.Steps.{uncoupledStrip, knownStrip}

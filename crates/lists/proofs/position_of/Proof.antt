@@ -1,19 +1,19 @@
--- `coefficients::position_of` meets its contract. The invariant: the node is none of the first q.
+-- `lists::position_of` meets its contract. The invariant: none of the first q entries is v.
 use mathlib.Core.Path.{_≡_}
 use Prim.Native.Nat.{_+_, _-_, _≤_}
 use native.Mathlib.Omega.{arith}
 use borrow.Author.Needs.{needs}
 use lib.ListN.{length, drop}
-use Rattle.coefficients.specs.Weights.{positionIn}
-use Rattle.coefficients.proofs.Positions.{found, not-found, past-all}
-use Rattle.coefficients.proofs.position_of.Statement.{statement}
-use Rattle.coefficients.proofs.position_of.Tie as tie
+use Rattle.lists.specs.Positions.{positionIn}
+use Rattle.lists.proofs.Positions.{found, not-found, past-all}
+use Rattle.lists.proofs.position_of.Statement.{statement}
+use Rattle.lists.proofs.position_of.Tie as tie
 
 abbrev Inv-loop : tie.InvT-loop
-Inv-loop nodes j q₀ q = (q ≤ length nodes) × (positionIn nodes j ≡ q + positionIn (drop q nodes) j)
+Inv-loop list v q₀ q = (q ≤ length list) × (positionIn list v ≡ q + positionIn (drop q list) v)
 
 abbrev μ-loop : tie.MeasureT-loop
-μ-loop nodes j q₀ q = length nodes - q
+μ-loop list v q₀ q = length list - q
 
 loop-holds : tie.Need-loop-holds Inv-loop μ-loop
 loop-holds c = (omega arith, omega arith)
@@ -29,7 +29,7 @@ returns c =
     let t = c .before .before in
     let l = t .before .loop in
     let s = t .before .before in
-    omega (arith, l .inv .1, found (s .args .nodes .now) (s .args .j) (l .q) (t .loop-test .taken) (c .if1 .taken))
+    omega (arith, l .inv .1, found (s .args .list .now) (s .args .v) (l .q) (t .loop-test .taken) (c .if1 .taken))
 
 add-q : tie.Need-add-q Inv-loop μ-loop
 add-q c = search needs
@@ -43,15 +43,15 @@ loop-again c =
     let l = t .before .loop in
     let s = t .before .before in (
       omega (arith, t .loop-test .taken),
-      omega (arith, l .inv .1, not-found (s .args .nodes .now) (s .args .j) (l .q) (t .loop-test .taken) (c .if1 .left)),
+      omega (arith, l .inv .1, not-found (s .args .list .now) (s .args .v) (l .q) (t .loop-test .taken) (c .if1 .left)),
     )
 
 returns-2 : tie.Need-returns-2 Inv-loop μ-loop
 returns-2 c =
     let l = c .before .loop in
     let s = c .before .before in
-    let e : l .q ≡ length (s .args .nodes .now) = omega (arith, c .loop-test .left, l .inv .0) in
-    omega (arith, l .inv .1, past-all (s .args .nodes .now) (s .args .j) (l .q) e)
+    let e : l .q ≡ length (s .args .list .now) = omega (arith, c .loop-test .left, l .inv .0) in
+    omega (arith, l .inv .1, past-all (s .args .list .now) (s .args .v) (l .q) e)
 
 pub position-of-spec : {M : Type 1} → statement M
 position-of-spec =

@@ -1,8 +1,8 @@
--- `fields::put_if` meets its contract.
+-- `lists::put_if` meets its contract.
 use borrow.Author.Needs.{needs}
 use Rattle.lists.proofs.Put.{wrote-one, wrote-none}
-use Rattle.fields.proofs.put_if.Statement.{statement}
-use Rattle.fields.proofs.put_if.Tie as tie
+use Rattle.lists.proofs.put_if.Statement.{statement}
+use Rattle.lists.proofs.put_if.Tie as tie
 
 cast-out : tie.Need-cast-out
 cast-out c = search needs

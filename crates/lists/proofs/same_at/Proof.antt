@@ -1,12 +1,12 @@
--- `fields::same_at` meets its contract. The invariant: what is left to compare decides the whole.
+-- `lists::same_at` meets its contract. The invariant: what is left to compare decides the whole.
 use mathlib.Core.Path.{_≡_, refl, sym, _∙_}
 use Prim.Native.Nat.{_-_, _≤_, zero-le}
 use native.Mathlib.Omega.{arith}
 use borrow.Author.Needs.{needs}
 use lib.ListN.{length}
 use Rattle.lists.proofs.Same.{left, same-next, same-not, same-end}
-use Rattle.fields.proofs.same_at.Statement.{statement}
-use Rattle.fields.proofs.same_at.Tie as tie
+use Rattle.lists.proofs.same_at.Statement.{statement}
+use Rattle.lists.proofs.same_at.Tie as tie
 
 abbrev Inv-loop : tie.InvT-loop
 Inv-loop b at want i₀ i = (i ≤ length want) × (left b at want i ≡ left b at want 0)

@@ -1,4 +1,4 @@
--- Where a node stands in a list: its first entry that is the node, and the steps of a search from the front.
+-- Where a number stands in a list: its first entry that is the number, and the steps of a search from the front.
 use mathlib.Core.Path.{_≡_, refl}
 use mathlib.Core.Logic.{_≢_}
 use mathlib.Core.Bool.{Bool, true, false, cond}
@@ -11,7 +11,7 @@ use lib.Dec.{eqb}
 use lib.ListN.{length, getD, drop}
 use lib.Seq.{drop-cons, drop-length}
 use borrow.Author.Tests.{eq-eqb, ne-eqb}
-use Rattle.coefficients.specs.Weights.{positionIn}
+use Rattle.lists.specs.Positions.{positionIn}
 
 -- ---- the cases of `positionIn`
 pub position-here : (x : ℕ) (xs : List ℕ) (j : ℕ) → x ≡ j → positionIn (x ∷ xs) j ≡ 0
@@ -32,7 +32,7 @@ position-le (x ∷ xs) j = go (eqb x j) (position-le xs j)
     go true h = omega arith
     go false h = omega arith
 
--- A node that is an entry is found.
+-- A number that is an entry is found.
 pub position-within : (xs : List ℕ) (j i : ℕ) → i < length xs → getD xs i 0 ≡ j → positionIn xs j < length xs
 position-within [] j i l e = absurd (omega arith)
 position-within (x ∷ xs) j i l e = go (ℕ-discrete x j) i l e (position-within xs j)
@@ -44,7 +44,7 @@ position-within (x ∷ xs) j i l e = go (ℕ-discrete x j) i l e (position-withi
     go (no d) zero l e more = absurd (d e)
     go (no d) (suc i) l e more = rw (position-later x xs j d) (omega (arith, more i (omega arith) e))
 
--- What is found is the node.
+-- What is found is the number.
 pub position-back : (xs : List ℕ) (j : ℕ) → positionIn xs j < length xs → getD xs (positionIn xs j) 0 ≡ j
 position-back [] j h = absurd (omega arith)
 position-back (x ∷ xs) j h = go (ℕ-discrete x j) (position-back xs j)
@@ -57,7 +57,7 @@ position-back (x ∷ xs) j h = go (ℕ-discrete x j) (position-back xs j)
         let t : suc (positionIn xs j) < suc (length xs) = rw s at h in
         rw s (more (omega arith))
 
--- ---- looking for a node, entry by entry
+-- ---- looking for a number, entry by entry
 module _ (xs : List ℕ) (j q : ℕ) (l : q < length xs) where
   pub found : getD xs q 0 ≡ j → positionIn (drop q xs) j ≡ 0
   found e = rw (drop-cons xs q 0 l) (position-here _ _ j e)

@@ -1,4 +1,4 @@
--- `fields::put_bytes` meets its contract. The invariant: the bytes passed are written.
+-- `lists::put_bytes` meets its contract. The invariant: the bytes passed are written.
 use mathlib.Core.Path.{_≡_, refl, sym, ap, _∙_}
 use mathlib.Core.List.{List}
 use Prim.Native.Nat.{ℕ, _+_, _-_, _≤_, zero-le}
@@ -6,10 +6,10 @@ use native.Mathlib.Omega.{arith}
 use borrow.Author.Needs.{needs}
 use lib.ListN.{length, getD, set, take, length-set}
 use lib.Seq.{take-all}
 use Rattle.lists.specs.Put.{put}
 use Rattle.lists.proofs.Put.{put-none, put-next}
-use Rattle.fields.proofs.put_bytes.Statement.{statement}
-use Rattle.fields.proofs.put_bytes.Tie as tie
+use Rattle.lists.proofs.put_bytes.Statement.{statement}
+use Rattle.lists.proofs.put_bytes.Tie as tie
 
 abbrev Inv-loop : tie.InvT-loop
 Inv-loop out₀ at src i₀ out i =
