@@ -9,8 +9,8 @@ pub mod Price
 pub mod Planned
 pub mod Tried
 pub mod PlanBytes
+pub mod Message
 pub mod Bundle
-pub mod Cut
 pub mod Columns
 pub mod Chosen
 pub mod Values

@@ -4,7 +4,7 @@ use mathlib.Core.Path.{_≡_, refl}
 use mathlib.Core.Bool.{Bool, true, false, _&&_, not}
 use mathlib.Core.List.{List, [], _∷_, _++_}
 use Prim.Native.Nat.{ℕ, zero, suc, _*_, _≤_, _<_, zero-le, suc-le-suc}
-use native.Mathlib.Nat.{zero-lt-suc, mul-le-mul}
+use native.Mathlib.Nat.{zero-lt-suc}
 use native.Mathlib.Omega.{arith}
 use lib.Dec.{eqb, ltb}
 use lib.ListN.{length}
@@ -22,11 +22,11 @@ use Rattle.document.specs.declared.Refusal.{Refusal}
 use Rattle.document.specs.declared.Surveyed.{Surveyed}
 use Rattle.document.specs.declared.Surveyed.the-variants as surveys
 use Rattle.document.specs.Refusals.{Test, tried, indexOf, answerValue}
-use Rattle.document.specs.Profile.{maxStrip, Accepted, profileTests, profileOf, onAccepted}
+use Rattle.document.specs.Profile.{Accepted, profileTests, profileOf, onAccepted}
 use Rattle.document.specs.Encoding.{encodeTests, encodeWith, encodeOf}
 use Rattle.document.specs.Plan.{planned, maxPlaces, planTests, planWith, planOf}
+use Rattle.document.specs.Message.{messageTests}
 use Rattle.document.specs.Bundle.{
-  stripFieldLength,
   bundleLength,
   longestBundle,
   bundleOf,
@@ -41,7 +41,7 @@ use Rattle.document.specs.Survey.{resultOf, surveyTests, surveyWith, sur
 use Rattle.document.proofs.Decides.{decides-eq, decides-both}
 use Rattle.document.proofs.Accepts.{failed-accepted}
 use Rattle.document.proofs.Price.{few-places}
-use Rattle.document.proofs.Bundle.{bundle-length}
+use Rattle.document.proofs.Bundle.{bundle-length, bundle-bound}
 use Rattle.document.proofs.Surveys.{by-result}
 
 -- Of a list of tests: each refusal comes with an index of at most `most`, if those before it were not given, and Q holds
@@ -173,18 +173,17 @@ module _ (p : Numbers) where
             → eqb (length x) (p .n * p .a * p .s) && eqb (length b) (bundleLength (profileOf p) node) ≡ true
             → length (bundleOf (profileOf p) node r x) ≤ longestBundle
         size acc e f =
+            let below : lost < p .n = ltb-true lost (p .n) (not-false _ e) in
             let stored : length x ≡ p .n * p .a * p .s =
             decides-both _ _ (decides-eq (length x) (p .n * p .a * p .s)) (decides-eq (length b) _) .0 f .0 in
-            let fields : places * stripFieldLength (p .s) ≤ maxPlaces * stripFieldLength maxStrip =
-            mul-le-mul {n₁ = places} {m₁ = stripFieldLength (p .s)} {n₂ = maxPlaces} {m₂ = stripFieldLength maxStrip}
-            (few acc e) (omega (arith, acc .short)) in
             omega (
               arith,
-              bundle-length (profileOf p) r x acc stored node (ltb-true lost (p .n) (not-false _ e)),
+              bundle-length (profileOf p) acc x stored r node below,
+              bundle-bound (profileOf p) acc node below,
             )
 
     pub rebuild-value : (r : Recording) (b y : List ℕ) → answerValue (rebuildOf p lost r b y .0) < maxPlaces
-    unfolding rebuildOf rebuildWith rebuildTests bundleTests indexOf
+    unfolding rebuildOf rebuildWith rebuildTests bundleTests messageTests indexOf
     rebuild-value r b y =
         suc-le-suc
         (value-by y _

@@ -343,8 +343,9 @@ fn rebuild_with(p: Profile, f: Node, r: Recording, bundle: &[u8], column: &mut [
     match answer {
         Answer::Refused(refusal) => Answer::Refused(refusal),
         Answer::Done(_) => {
-            let stride = bundle::strip_stride(p);
-            rebuild_column(column, bundle, bundle::FIRST_STRIP, stride, p, f);
+            let first = bundle::first_strip(p);
+            let stride = message::strip_stride(p);
+            rebuild_column(column, bundle, first, stride, p, f);
             Answer::Done(0)
         }
     }
