@@ -61,12 +61,10 @@ use Rattle.document.proofs.Accepts.{on-accepted-map, on-accepted-same}
 use Rattle.document.proofs.Tried.{tried-map}
 use Rattle.document.proofs.NodeLists.{decides-list-accepted, decides-ambiguous}
 use Rattle.document.proofs.Surveys.{by-result}
-use Rattle.demands.specs.Refusals.{
-  Decided,
-  none,
-  line,
-  encodeSentences,
-  planSentences,
+use Rattle.demands.specs.Tables.{Decided, none, line, numberIn, Numbered}
+use Rattle.demands.specs.Encoding.{encodeSentences, Demand1Encode}
+use Rattle.demands.specs.Plan.{planSentences, Demand1Plan}
+use Rattle.demands.specs.Bundle.{
   writeSentences,
   Formed,
   Headed,
@@ -74,19 +72,12 @@ use Rattle.demands.specs.Refusals.{
   scenarioRead,
   stripSentences,
   bundleSentences,
-  rebuildSentences,
-  readSentences,
-  surveySentences,
-  numberIn,
-  Numbered,
-  Demand1Encode,
-  Demand1Plan,
   Demand1Write,
-  Demand1Rebuild,
-  Demand1Read,
-  Demand1Survey,
-  Demand1,
 }
+use Rattle.demands.specs.Rebuild.{rebuildSentences, Demand1Rebuild}
+use Rattle.demands.specs.Reading.{readSentences, Demand1Read}
+use Rattle.demands.specs.Survey.{surveySentences, Demand1Survey}
+use Rattle.demands.specs.Demand1.{Demand1}
 use Rattle.demands.proofs.Tables.{
   decided,
   decided-then,

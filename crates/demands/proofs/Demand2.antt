@@ -30,10 +30,9 @@ use Rattle.document.proofs.Arrays.{
   coupled-lower,
   coupled-ext,
 }
-use Rattle.demands.specs.Refusals.{encodeSentences}
-use Rattle.demands.specs.Encoding.{DocumentArray, OneArray, Demand2Encode}
 use Rattle.document.specs.declared.Refusal.the-variants.{BufferLength}
 use Rattle.document.proofs.Decides.{decides-eq}
+use Rattle.demands.specs.Encoding.{encodeSentences, DocumentArray, OneArray, Demand2Encode}
 use Rattle.demands.proofs.Tables.{decided, this, Granted}
 use Rattle.demands.proofs.Demand1.{encode-granted}
 

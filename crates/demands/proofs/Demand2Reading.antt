@@ -20,8 +20,8 @@ use Rattle.document.proofs.Accepts.{on-accepted-map, on-accepted-same}
 use Rattle.document.proofs.Tried.{tried-map}
 use Rattle.document.proofs.NodeLists.{decides-list-accepted, decides-ambiguous}
 use Rattle.document.proofs.Reading.{read-data, read-columns, read-only}
-use Rattle.demands.specs.Refusals.{here, later, readSentences}
-use Rattle.demands.specs.Reading.{InDueForm, OnlyData, Demand2Reading}
+use Rattle.demands.specs.Tables.{here, later}
+use Rattle.demands.specs.Reading.{readSentences, InDueForm, OnlyData, Demand2Reading}
 use Rattle.demands.proofs.Tables.{decided, by-name, Granted, call-stops, call-through}
 use Rattle.demands.proofs.Demand1.{read-decided, read-granted}
 

@@ -50,35 +50,21 @@ use Rattle.document.proofs.Price.{over-price, planned-price}
 use Rattle.document.proofs.Planned.{over-distinct, over-off-lost}
 use Rattle.document.proofs.Chosen.{planned-within}
 use Rattle.document.proofs.Bundle.{bundle-length}
-use Rattle.document.proofs.Cut.{
-  bundle-ext,
-  cut-first,
-  cut-second,
-  cut-opening,
-  cut-place,
-  cut-recording,
-  cut-strip,
-}
-use Rattle.demands.specs.Refusals.{
-  planSentences,
+use Rattle.document.proofs.Cut.{bundle-ext, cut-first, cut-second, cut-opening, cut-place, cut-recording, cut-strip}
+use Rattle.demands.specs.Plan.{planSentences, Demand3Places, Demand3Walk, Demand3Plan}
+use Rattle.demands.specs.Strips.{Bytes, EncodedArray, HasStrips, columnIn, Fits, OneColumn}
+use Rattle.demands.specs.Bundle.{
   writeSentences,
   Formed,
   Headed,
   stripSentences,
   bundleSentences,
-  rebuildSentences,
-}
-use Rattle.demands.specs.Plan.{Demand3Places, Demand3Walk, Demand3Plan}
-use Rattle.demands.specs.Rebuild.{
-  Bytes,
-  EncodedArray,
-  HasStrips,
-  columnIn,
-  Fits,
-  OneColumn,
   WrittenBundle,
   Demand3Write,
   CutFrom,
+}
+use Rattle.demands.specs.Rebuild.{
+  rebuildSentences,
   NotRefused,
   RebuiltColumn,
   Demand3Rebuild,
@@ -104,6 +90,7 @@ use Rattle.demands.proofs.Tables.{
   Granted,
   call-through,
 }
+use Rattle.demands.proofs.Strips.{same-rebuilt, column-of, array-gives, bundle-gives, some-fits}
 use Rattle.demands.proofs.Demand1.{
   plan-granted,
   write-granted,
@@ -116,7 +103,6 @@ use Rattle.demands.proofs.Demand1.{
   rebuild-decided,
   rebuild-granted,
 }
-use Rattle.demands.proofs.Strips.{same-rebuilt, column-of, array-gives, bundle-gives, some-fits}
 
 -- ---- the plan
 pub demand-3-places : Demand3Places

@@ -13,14 +13,10 @@ use Rattle.document.specs.declared.Answer.the-variants.{Done, Refused}
 use Rattle.document.specs.Refusals.{numberOf}
 use Rattle.document.proofs.Decides.{decides-eq, decides-not, decides-both}
 use Rattle.document.specs.Program.{lineOf, outputOf, programOf}
-use Rattle.demands.specs.Refusals.{
-  Sentence,
-  profileSentences,
-  stripSentences,
-  bundleSentences,
-  rebuildSentences,
-  numberIn,
-}
+use Rattle.demands.specs.Tables.{Sentence, numberIn}
+use Rattle.demands.specs.Profile.{profileSentences}
+use Rattle.demands.specs.Bundle.{stripSentences, bundleSentences}
+use Rattle.demands.specs.Rebuild.{rebuildSentences}
 use Rattle.demands.specs.Program.{wanted, own, table, Demand1Program}
 use Rattle.demands.proofs.Tables.{answered, Holds, this, next, first-holds}
 use Rattle.demands.proofs.Demand1.{demand-1-rebuild}

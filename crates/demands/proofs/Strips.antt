@@ -21,15 +21,7 @@ use Rattle.document.specs.Bundle.{stripFieldLength, stripOf, stripIn}
 use Rattle.document.specs.Rebuild.{positionOf, givenAt, rebuiltOver, firstStrip}
 use Rattle.document.proofs.Bytes.{number-byte}
 use Rattle.document.proofs.Walks.{Sound}
-use Rattle.document.proofs.Chosen.{
-  choice,
-  outside,
-  shape,
-  listed-planned,
-  planned-listed,
-  position,
-  planned-within,
-}
+use Rattle.document.proofs.Chosen.{choice, outside, shape, listed-planned, planned-listed, position, planned-within}
 use Rattle.document.proofs.Columns.{
   Alike,
   rebuilt-alike,
@@ -41,7 +33,7 @@ use Rattle.document.proofs.Columns.{
   given-strip,
 }
 use Rattle.demands.specs.Encoding.{DocumentArray}
-use Rattle.demands.specs.Rebuild.{Bytes, EncodedArray, HasStrips, columnIn}
+use Rattle.demands.specs.Strips.{Bytes, EncodedArray, HasStrips, columnIn}
 use Rattle.demands.proofs.Demand2.{encoded-is, encoded-only}
 
 module _ (p : Profile) (acc : Accepted p) (f : Node) (h : f .0 < p .n) (w : Walk)

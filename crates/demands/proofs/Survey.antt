@@ -46,8 +46,10 @@ use Rattle.document.proofs.Surveys.{
   result-open,
   by-result,
 }
-use Rattle.demands.specs.Refusals.{Sentence, FirstOf, Decided, profileSentences, surveySentences}
+use Rattle.demands.specs.Tables.{Sentence, FirstOf, Decided}
+use Rattle.demands.specs.Profile.{profileSentences}
 use Rattle.demands.specs.Survey.{
+  surveySentences,
   NoneFails,
   Tells,
   failing,

@@ -30,7 +30,7 @@ use Rattle.document.specs.Profile.{Accepted, profileTests, profileOf, onAccepte
 use Rattle.document.proofs.Decides.{decides-not, decides-same, decides-false}
 use Rattle.document.proofs.Accepts.{decides-shape, decides-constant, decides-strip, failed-accepted, one-list}
 use Rattle.document.proofs.Tried.{Failed, tried-holds, tried-not}
-use Rattle.demands.specs.Refusals.{
+use Rattle.demands.specs.Tables.{
   Sentence,
   FirstOf,
   here,
@@ -39,12 +39,11 @@ use Rattle.demands.specs.Refusals.{
   Decided,
   none,
   line,
-  profileSentences,
   numberIn,
   Numbered,
   Demand1Of,
-  profileLines,
 }
+use Rattle.demands.specs.Profile.{profileSentences, profileLines}
 
 -- done is not refused
 done-refused : (v : ℕ) (r : Refusal) → Done v ≡ Refused r → ⊥

@@ -33,8 +33,9 @@ use Rattle.document.specs.Bundle.{
 }
 use Rattle.document.proofs.Bundle.{bundle-length}
 use Rattle.document.proofs.Cut.{cut-first, cut-second, cut-opening, cut-place, cut-recording, cut-strip}
-use Rattle.demands.specs.Refusals.{Headed}
-use Rattle.demands.specs.Rebuild.{HasStrips, NotRefused, CutForWanted, WholeBundle}
+use Rattle.demands.specs.Strips.{HasStrips}
+use Rattle.demands.specs.Bundle.{Headed}
+use Rattle.demands.specs.Rebuild.{NotRefused, CutForWanted, WholeBundle}
 use Rattle.demands.specs.Demand3.{Demand3}
 use Rattle.demands.proofs.Demand1.{length-is, opening-is}
 use Rattle.demands.proofs.Demand3.{

@@ -1,13 +1,12 @@
--- Demand 3, whole: each clause and the statement that says it. Shown in proofs/Whole.antt: demand-3.
+-- Demand 3, whole: each clause and the statement that says it. Shown in proofs/Demand3.antt: demand-3.
 --
 -- Demand3 : demand 3
 use Prim.Native.Nat.{ℕ}
 use Rattle.document.specs.declared.Numbers.{Numbers}
 use Rattle.demands.specs.Plan.{Demand3Places, Demand3Walk, Demand3Plan}
+use Rattle.demands.specs.Strips.{Fits, OneColumn}
+use Rattle.demands.specs.Bundle.{Demand3Write}
 use Rattle.demands.specs.Rebuild.{
-  Fits,
-  OneColumn,
-  Demand3Write,
   Demand3Rebuild,
   SameStrips,
   SameColumn,

@@ -22,8 +22,9 @@ use Rattle.document.specs.declared.Refusal.the-variants.{BufferLength}
 use Rattle.document.specs.Profile.{profileOf}
 use Rattle.document.specs.Rebuild.{rebuildOf}
 use Rattle.document.specs.Program.{programHead, wantedNumbers, wantedNode, wantedRecording, lineOf, programOf}
-use Rattle.demands.specs.Refusals.{Sentence, FirstOf, profileSentences, rebuildSentences}
-use Rattle.demands.specs.Rebuild.{NotRefused}
+use Rattle.demands.specs.Tables.{Sentence, FirstOf}
+use Rattle.demands.specs.Profile.{profileSentences}
+use Rattle.demands.specs.Rebuild.{rebuildSentences, NotRefused}
 
 module _ (input : List ℕ) where
   abbrev pub wanted : Numbers
