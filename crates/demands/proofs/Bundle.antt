@@ -1,7 +1,7 @@
 -- A bundle to read: where its fields stand, in document 01's numbers, and what a reader's tests decide.
 --
 -- AsWanted p f r b : the bundle b is as wanted for the profile p, the lost node f and the recording r: what holds of it
---                    exactly where no line of `bundleSentences` does (wanted-fails, refuted-wanted)
+--                    exactly where no line of `bundleSentences` does (wanted-none, refuted-wanted)
 use mathlib.Core.Path.{_≡_, refl, sym, ap, ap₂, _∙_}
 use mathlib.Core.List.{List, _∷_, _++_}
 use Prim.Native.Nat.{ℕ, _+_, _*_, _<_}
@@ -49,7 +49,7 @@ use Rattle.demands.proofs.Tables.{
   decided,
   Holds,
   by-name,
-  Fails,
+  NoneHolds,
   line-by-line,
   decided-listed,
   decided-then,
@@ -151,9 +151,9 @@ module _ (p : Profile) (f : Node) (r : Recording) (b : List ℕ) where
     pub is-placed : (i : ℕ) → i < length (planned p f) → placeIn p b i ≡ plannedAt p f i
     pub is-fresh : (i : ℕ) → i < length (planned p f) → recordingIn p b i ≡ recordingBytes r
 
-  pub wanted-fails : AsWanted → Fails (bundleSentences p f r b)
+  pub wanted-none : AsWanted → NoneHolds (bundleSentences p f r b)
   unfolding bundleSentences stripSentences recordingBytes
-  wanted-fails w =
+  wanted-none w =
       let places : (i : ℕ) → i < P → placeRead p b i ≡ plannedAt p f i = λ i l. sym (place-is p b i) ∙ w .is-placed i l in
       let scenarios : (i : ℕ) → i < P → scenarioRead p b i ≡ recordingBytes r = λ i l. sym (scenario-is p b i) ∙ w .is-fresh i l in
       search line-by-line depth 9

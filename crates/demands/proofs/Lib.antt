@@ -1,4 +1,5 @@
 pub mod Tables
+pub mod Calls
 pub mod Profile
 pub mod Encoding
 pub mod Plan

@@ -1,12 +1,12 @@
 -- What a table says of a call that is given a profile's numbers, and then tries tests of its own over an accepted profile:
 -- `call-for`, the case of `call-of` whose table begins with the lines of a profile.
 --
--- accepted-fails               : no line of an accepted profile holds
--- past-profile                 : where no line of a call holds, its profile is accepted
+-- accepted-none                : no line of an accepted profile holds
+-- past-profile                 : where no line holds, the profile is accepted, and no line of the call's own holds
 -- profile-decided              : before tests that decide their lines for an accepted profile, a profile's decide theirs
 -- Granted p table outcome done : what is known of a call with the numbers p where it is not refused
 -- CallFor p tests table lines before outcome done : what is known of a call with the numbers p; its tests, its table and
---                               its lines are those past the profile's
+--                                its lines are those past the profile's
 use mathlib.Core.Path.{_≡_, refl, ap, _∙_}
 use mathlib.Core.Logic.{_⊎_, inl, inr}
 use mathlib.Core.List.{List, _++_}
@@ -39,15 +39,14 @@ use Rattle.demands.proofs.Tables.{
   only-append,
   only-split,
   line-by-line,
-  Fails,
+  NoneHolds,
   unheld,
   first-past,
   decided-then,
   decided-failed,
   map-append,
-  CallOf,
-  call-of,
 }
+use Rattle.demands.proofs.Calls.{CallOf, call-of}
 
 -- ---- the lines of a profile
 -- what is not within 1..512 is 0 or above 512
@@ -64,9 +63,9 @@ inside S (inl e) h = omega arith
 inside S (inr l) h = omega arith
 
 module _ (p : Numbers) where
-  pub accepted-fails : Accepted (profileOf p) → Fails (profileSentences p)
+  pub accepted-none : Accepted (profileOf p) → NoneHolds (profileSentences p)
   unfolding profileSentences
-  accepted-fails acc =
+  accepted-none acc =
       let strip : (p .s ≡ 0) ⊎ (512 < p .s) → ⊥ = λ m. inside (p .s) m (acc .some-bytes, acc .short) in
       search line-by-line
 
@@ -80,15 +79,16 @@ module _ (p : Numbers) where
       (λ constant.
       line refl (decides-same _ (decides-not _ (decides-strip (p .s))) (outside (p .s)) (inside (p .s))) (λ strip. none)))
 
-  fails-accepted : Fails (profileSentences p) → Accepted (profileOf p)
-  fails-accepted f = failed-accepted p (decided-failed profile-lines f)
+  none-accepted : NoneHolds (profileSentences p) → Accepted (profileOf p)
+  none-accepted f = failed-accepted p (decided-failed profile-lines f)
 
-  pub past-profile : {table : List Sentence} → Fails (profileSentences p ++ table) → Accepted (profileOf p) × Fails table
-  past-profile f = let parts = only-split (profileSentences p) f in (fails-accepted (parts .0), parts .1)
+  pub past-profile : {table : List Sentence} → NoneHolds (profileSentences p ++ table)
+      → Accepted (profileOf p) × NoneHolds table
+  past-profile f = let parts = only-split (profileSentences p) f in (none-accepted (parts .0), parts .1)
 
   pub profile-decided : {tests : List Test} {table : List Sentence} → (Accepted (profileOf p) → Decided tests table)
       → Decided (profileTests p ++ tests) (profileSentences p ++ table)
-  profile-decided rest = decided-then profile-lines (λ f. rest (fails-accepted f))
+  profile-decided rest = decided-then profile-lines (λ f. rest (none-accepted f))
 
 -- ---- a call that is given a profile's numbers
 pub record Granted {X : Type 0} (p : Numbers) (table : List Sentence) (outcome done : Answer × X) : Type 1 where
@@ -104,7 +104,7 @@ pub record CallFor {X : Type 0} (p : Numbers) (tests : Profile → List Test) (t
   pub granted : answerNumber (outcome .0) ≡ 0 → Granted p (table (profileOf p)) outcome done
   -- what the call's own lines tell of the answer, for an accepted profile
   pub stops : Accepted (profileOf p) → {r : Refusal} → FirstOf (table (profileOf p)) r → outcome ≡ (Refused r, before)
-  pub through : Accepted (profileOf p) → Fails (table (profileOf p)) → outcome ≡ done
+  pub through : Accepted (profileOf p) → NoneHolds (table (profileOf p)) → outcome ≡ done
 
 module _ {X : Type 0} (p : Numbers) (before : X) (tests : Profile → List Test) (table : Profile → List Sentence)
     (v : Profile → ℕ) (after : Profile → X)
@@ -133,8 +133,8 @@ module _ {X : Type 0} (p : Numbers) (before : X) (tests : Profile → List Test)
         let g = in-a-row .granted e in
         let past = past-profile p (unheld _ (λ r h. g .refuted h)) in
         record { accepted = past .0; refuted = held (past .1); is-done = g .is-done };
-    stops = λ acc first. in-a-row .stops (first-past (accepted-fails p acc) first);
-    through = λ acc f. in-a-row .through (only-append (accepted-fails p acc) f);
+    stops = λ acc first. in-a-row .stops (first-past (accepted-none p acc) first);
+    through = λ acc f. in-a-row .through (only-append (accepted-none p acc) f);
   }
 
 -- its answer, by the tests alone

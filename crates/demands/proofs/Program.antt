@@ -15,7 +15,8 @@ use Rattle.demands.specs.Profile.{profileSentences}
 use Rattle.demands.specs.Bundle.{stripSentences, bundleSentences}
 use Rattle.demands.specs.Rebuild.{rebuildSentences}
 use Rattle.demands.specs.Program.{wanted, lent, table, Demand1Program}
-use Rattle.demands.proofs.Tables.{never-zero, first-holds, Only, held, line-by-line}
+use Rattle.demands.proofs.Tables.{first-holds, Only, held, line-by-line}
+use Rattle.demands.proofs.Calls.{never-zero}
 use Rattle.demands.proofs.Rebuild.{demand-1-rebuild}
 
 -- ---- the output, by the answer
@@ -30,7 +31,7 @@ line-out (Done w, x) q e = absurd (let z : _≡_ {A = ℕ} 0 1 = cc in omega ari
 line-out (Refused s, x) q e = let same : s ≡ q = cc in ap lineOf same
 
 -- ---- the answer is not 5
--- a refusal with the number m is none
+-- the refusal r has another number than m
 abbrev Other : ℕ → Refusal → Type 0
 Other m r = elim (eqb (numberOf r) m) [ true ↦ ⊥ | false ↦ Unit ]
 
@@ -39,7 +40,7 @@ others-alone : (input : List ℕ) → Only (Other 5) (table input)
 unfolding rebuildSentences profileSentences bundleSentences stripSentences numberOf
 others-alone input =
     let size : length (lent input) ≡ wanted input .a * wanted input .s = length-replicate _ 0 in
-    search (line-by-line, tt) depth 12
+    search (line-by-line, tt) depth 20
 
 pub demand-1-program : Demand1Program
 unfolding programOf numberOf

@@ -41,10 +41,10 @@ use Rattle.demands.specs.Rebuild.{
   CutForWanted,
   WholeBundle,
 }
-use Rattle.demands.proofs.Tables.{decided, by-name, Fails, line-by-line}
+use Rattle.demands.proofs.Tables.{decided, by-name, NoneHolds, line-by-line}
 use Rattle.demands.proofs.Profile.{Granted, CallFor, call-for, call-answer}
 use Rattle.demands.proofs.Strips.{same-rebuilt, column-of, bundle-gives, some-fits}
-use Rattle.demands.proofs.Bundle.{bundle-decided, bundle-numbered, AsWanted, wanted-fails, refuted-wanted}
+use Rattle.demands.proofs.Bundle.{bundle-decided, bundle-numbered, AsWanted, wanted-none, refuted-wanted}
 use Rattle.demands.proofs.Cut.{cut-is, cut-accepted, cut-below, cut-strips, cut-wanted}
 use Rattle.demands.proofs.Whole.{head-fixes, whole}
 
@@ -165,7 +165,7 @@ module _ (p : Numbers) (f : ℕ) where
   unfolding rebuildSentences answerNumber
   cut-passes x r b y cut size =
       let under : f < p .n = cut-below p f x r b cut in
-      let read : Fails (bundleSentences wanted node r b) = wanted-fails wanted node r b (cut-wanted p f x r b cut) in
+      let read : NoneHolds (bundleSentences wanted node r b) = wanted-none wanted node r b (cut-wanted p f x r b cut) in
       ap (λ (o : Answer × List ℕ). answerNumber (o .0))
       (rebuild-call p f r b y .through (cut-accepted p f x r b cut) (search line-by-line))
 

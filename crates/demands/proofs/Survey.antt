@@ -26,7 +26,7 @@ use Rattle.document.proofs.Decides.{decides-le, decides-lt, decides-eq, decides
 use Rattle.document.proofs.Accepts.{one-list, on-accepted-map, on-accepted-same}
 use Rattle.document.proofs.Tried.{tried-map}
 use Rattle.document.proofs.Surveys.{decides-fails, by-result}
-use Rattle.demands.specs.Tables.{Sentence, FirstOf, Decided, none, line}
+use Rattle.demands.specs.Tables.{Sentence, Decided, none, line}
 use Rattle.demands.specs.Profile.{profileSentences}
 use Rattle.demands.specs.Survey.{
   surveySentences,
@@ -45,19 +45,17 @@ use Rattle.demands.specs.Survey.{
   SurveyDemands,
 }
 use Rattle.demands.proofs.Tables.{
-  never-zero,
   decided,
   Holds,
   by-name,
   held,
   line-by-line,
   only-append,
-  Fails,
-  first-or-fails,
-  tried-stops,
-  tried-through,
+  FirstOrNone,
+  first-or-none,
 }
-use Rattle.demands.proofs.Profile.{accepted-fails, past-profile, profile-decided, call-for}
+use Rattle.demands.proofs.Calls.{never-zero, tried-stops, tried-through}
+use Rattle.demands.proofs.Profile.{accepted-none, past-profile, profile-decided, call-for}
 use Rattle.demands.proofs.Reading.{read-refused, read-answered}
 use Rattle.demands.proofs.Results.{result-tells, join-failing, join-done, join-open}
 
@@ -125,14 +123,13 @@ module _ (p : Numbers) (start : ℕ) (x : List ℕ) where
   allowed-result most A =
       let below : sets (p .n) (p .k) < start → ⊥ = λ m. omega (arith, A .within) in
       survey-tried most
-      ∙ tried-through _ _ tests-decided (only-append (accepted-fails p (A .profile)) (search line-by-line))
+      ∙ tried-through _ _ tests-decided (only-append (accepted-none p (A .profile)) (search line-by-line))
 
   refused-or-allowed : AlwaysRefused p start x ⊎ Allowed p start x
   unfolding surveySentences
-  refused-or-allowed = go (first-or-fails tests-decided)
+  refused-or-allowed = go (first-or-none tests-decided)
     where
-      go : ((r : Refusal) × FirstOf (profileSentences p ++ own) r) ⊎ Fails (profileSentences p ++ own)
-          → AlwaysRefused p start x ⊎ Allowed p start x
+      go : FirstOrNone (profileSentences p ++ own) → AlwaysRefused p start x ⊎ Allowed p start x
       go (inl (r, first)) = inl (r, λ most. survey-tried most ∙ tried-stops _ _ tests-decided first)
       go (inr f) =
           inr (record {

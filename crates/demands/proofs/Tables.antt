@@ -1,14 +1,14 @@
--- What a table of refusals says of a call that tries its tests in order: `call-of`, once for all calls.
+-- The laws of tables of refusals, and of tests that decide them.
 --
--- never-zero                   : no refusal has the number 0
--- decided                      : what is decided and not refuted holds
--- Holds table r                : some line of r holds, wherever it stands; `search by-name` finds it
--- Only Q table                 : the lines that hold are of refusals as Q says; `search line-by-line` shows it
--- Fails table                  : no line holds
--- first-or-fails               : some refusal is the first of a decided table, or no line holds
--- Unrefused table outcome done : what is known of a call where it is not refused
--- CallOf tests table lines before outcome done : what is known of a call with these tests and this table
-use mathlib.Core.Path.{_≡_, refl, sym, ap, _∙_}
+-- decided         : what is decided and not refuted holds
+-- Holds table r   : some line of the refusal r holds. `search by-name` finds it, wherever it stands, where what it says is
+--                   at hand
+-- Only Q table    : the lines that hold are of refusals as Q says. `search line-by-line` goes over them, where what is
+--                   needed of each is at hand
+-- NoneHolds table : no line holds; `search line-by-line` shows it too
+-- FirstOf table r : `search in-order` finds the first line that holds, where those before it are refuted by what is at hand
+-- first-or-none   : some refusal is the first of a table that tests decide, or no line holds
+use mathlib.Core.Path.{_≡_, refl, ap}
 use mathlib.Core.Logic.{_⊎_, inl, inr}
 use mathlib.Core.Bool.{Bool, true, false, false≢true}
 use mathlib.Core.List.{List, [], _∷_, _++_, map}
@@ -18,36 +18,10 @@ use native.Mathlib.Omega.{arith}
 use Rattle.lists.specs.Listed.{listed}
 use Rattle.document.specs.declared.Refusal.{Refusal}
 use Rattle.document.specs.declared.Refusal.the-variants as refusals
-use Rattle.document.specs.declared.Answer.{Answer}
-use Rattle.document.specs.declared.Answer.the-variants.{Done, Refused}
-use Rattle.document.specs.Refusals.{numberOf, answerNumber, Test, tried, Decides}
+use Rattle.document.specs.Refusals.{Test, Decides}
 use Rattle.document.proofs.Decides.{decides-false}
-use Rattle.document.proofs.Tried.{Failed, tried-holds, tried-not}
-use Rattle.demands.specs.Tables.{
-  Sentence,
-  FirstOf,
-  here,
-  later,
-  RefusesExactly,
-  Decided,
-  none,
-  line,
-  Numbered,
-  Demand1Of,
-}
-
-pub never-zero : (r : Refusal) → numberOf r ≡ 0 → ⊥
-unfolding numberOf
-never-zero refusals.Shape e = omega arith
-never-zero refusals.Constant e = omega arith
-never-zero refusals.StripLength e = omega arith
-never-zero refusals.OutOfRange e = omega arith
-never-zero refusals.BufferLength e = omega arith
-never-zero refusals.BundleForm e = omega arith
-never-zero refusals.BundleHead e = omega arith
-never-zero (refusals.Misplaced i) e = omega arith
-never-zero (refusals.Stale i) e = omega arith
-never-zero refusals.Ambiguous e = omega arith
+use Rattle.document.proofs.Tried.{Failed}
+use Rattle.demands.specs.Tables.{Sentence, FirstOf, here, later, Decided, none, line}
 
 pub decided : {P : Type 0} (b : Bool) → Decides b P → ((P → ⊥) → ⊥) → P
 decided true d n = d .0 refl
@@ -73,13 +47,11 @@ holds-listed zero s i l e h = absurd (not-suc-le-zero l)
 holds-listed (suc n) s zero l e h = rw (← e) (this h)
 holds-listed (suc n) s (suc i) l e h = next (holds-listed n (λ i. s (suc i)) i (omega arith) e h)
 
--- finds the first line that holds, where those before it are refuted by what is at hand
-pub ruleset in-order = (here, later)
-
--- finds the line of a refusal, wherever it stands, where what it says is at hand
 pub ruleset by-name = (this, next, holds-left, holds-right, holds-listed)
 
--- the first of a table holds
+-- ---- the first line that holds
+pub ruleset in-order = (here, later)
+
 pub first-holds : {table : List Sentence} {r : Refusal} → FirstOf table r → Holds table r
 first-holds (here h) = this h
 first-holds (later n f) = next (first-holds f)
@@ -108,19 +80,18 @@ module _ {Q : Refusal → Type 0} where
   only-listed (suc n) s f =
       and-line (f 0 (zero-lt-suc n)) (only-listed n (λ i. s (suc i)) (λ i l. f (suc i) (suc-le-suc l)))
 
--- goes over the lines of a table, where what is needed of each is at hand
 pub ruleset line-by-line = (no-line, and-line, only-append, only-listed)
 
-abbrev pub Fails : List Sentence → Type 1
-Fails table = Only (λ r. ⊥) table
+abbrev pub NoneHolds : List Sentence → Type 1
+NoneHolds table = Only (λ r. ⊥) table
 
 -- where no line of any name holds, each fails
-pub unheld : (table : List Sentence) → ((r : Refusal) → Holds table r → ⊥) → Fails table
+pub unheld : (table : List Sentence) → ((r : Refusal) → Holds table r → ⊥) → NoneHolds table
 unheld [] n = no-line
 unheld (s ∷ table) n = and-line (λ h. n (s .refusal) (this h)) (unheld table (λ r h. n r (next h)))
 
 -- the first of lines before which none holds
-pub first-past : {a b : List Sentence} {r : Refusal} → Fails a → FirstOf b r → FirstOf (a ++ b) r
+pub first-past : {a b : List Sentence} {r : Refusal} → NoneHolds a → FirstOf b r → FirstOf (a ++ b) r
 first-past no-line f = f
 first-past (and-line n o) f = later n (first-past o f)
 
@@ -134,30 +105,29 @@ decided-listed (suc n) T s same decides =
     (λ past. decided-listed n (λ i. T (suc i)) (λ i. s (suc i)) (λ i. same (suc i)) (λ i. decides (suc i)))
 
 -- two tables in a row, where the second may count on the first
-pub decided-then : {t₁ t₂ : List Test} {s₁ s₂ : List Sentence} → Decided t₁ s₁ → (Fails s₁ → Decided t₂ s₂)
+pub decided-then : {t₁ t₂ : List Test} {s₁ s₂ : List Sentence} → Decided t₁ s₁ → (NoneHolds s₁ → Decided t₂ s₂)
     → Decided (t₁ ++ t₂) (s₁ ++ s₂)
 decided-then none e = e no-line
 decided-then (line same decides d) e = line same decides (λ n. decided-then (d n) (λ f. e (and-line n f)))
 
 -- the tests of lines that fail do not hold
-pub decided-failed : {tests : List Test} {table : List Sentence} → Decided tests table → Fails table → Failed tests
+pub decided-failed : {tests : List Test} {table : List Sentence} → Decided tests table → NoneHolds table → Failed tests
 decided-failed none no-line = tt
 decided-failed (line same decides rest) (and-line n f) = (decides-false _ decides n, decided-failed (rest n) f)
 
-abbrev FirstOrFails : List Sentence → Type 1
-FirstOrFails table = ((r : Refusal) × FirstOf table r) ⊎ Fails table
+abbrev pub FirstOrNone : List Sentence → Type 1
+FirstOrNone table = ((r : Refusal) × FirstOf table r) ⊎ NoneHolds table
 
-past-first : {s : Sentence} {table : List Sentence} → (s .says → ⊥) → FirstOrFails table → FirstOrFails (s ∷ table)
+past-first : {s : Sentence} {table : List Sentence} → (s .says → ⊥) → FirstOrNone table → FirstOrNone (s ∷ table)
 past-first n (inl (r, f)) = inl (r, later n f)
 past-first n (inr f) = inr (and-line n f)
 
-pub first-or-fails : {tests : List Test} {table : List Sentence} → Decided tests table
-    → ((r : Refusal) × FirstOf table r) ⊎ Fails table
-first-or-fails none = inr no-line
-first-or-fails (line {test} {s} {tests} {table} same decides rest) =
-    go (test .holds) decides (λ n. first-or-fails (rest n))
+pub first-or-none : {tests : List Test} {table : List Sentence} → Decided tests table → FirstOrNone table
+first-or-none none = inr no-line
+first-or-none (line {test} {s} {tests} {table} same decides rest) =
+    go (test .holds) decides (λ n. first-or-none (rest n))
   where
-    go : (b : Bool) → Decides b (s .says) → ((s .says → ⊥) → FirstOrFails table) → FirstOrFails (s ∷ table)
+    go : (b : Bool) → Decides b (s .says) → ((s .says → ⊥) → FirstOrNone table) → FirstOrNone (s ∷ table)
     go true d among = inl (s .refusal, here (d .0 refl))
     go false d among = let n : s .says → ⊥ = λ h. false≢true (d .1 h) in past-first n (among n)
 
@@ -170,81 +140,3 @@ map-listed (suc n) s g = ap (λ (l : List (ℕ × ℕ)). g (s 0) ∷ l) (map-lis
 pub map-append : (a b : List Sentence) (g : Sentence → ℕ × ℕ) → map g (a ++ b) ≡ map g a ++ map g b
 map-append [] b g = refl
 map-append (x ∷ a) b g = ap (λ (l : List (ℕ × ℕ)). g x ∷ l) (map-append a b g)
-
--- ---- a call that tries its tests in order, whatever it answers: the first is given, and without a first all are tried
--- in vain
-module _ {X : Type 0} (refuse : Refusal → X) (x : X) where
-  pub tried-stops : {tests : List Test} {table : List Sentence} → Decided tests table → {r : Refusal} → FirstOf table r
-      → tried tests refuse x ≡ refuse r
-  tried-stops (line {test} {s} {tests} same decides rest) (here h) =
-      tried-holds refuse test tests x (decides .1 h) ∙ ap refuse same
-  tried-stops (line {test} {s} {tests} same decides rest) (later n first) =
-      tried-not refuse test tests x (decides-false _ decides n) ∙ tried-stops (rest n) first
-
-  pub tried-through : {tests : List Test} {table : List Sentence} → Decided tests table → Fails table
-      → tried tests refuse x ≡ x
-  unfolding tried
-  tried-through none no-line = refl
-  tried-through (line {test} {s} {tests} same decides rest) (and-line n f) =
-      tried-not refuse test tests x (decides-false _ decides n) ∙ tried-through (rest n) f
-
--- ---- a call with an answer
-pub record Unrefused {X : Type 0} (table : List Sentence) (outcome done : Answer × X) : Type 1 where
-  pub refuted : {r : Refusal} → Holds table r → ⊥
-  pub is-done : outcome ≡ done
-
-pub record CallOf {X : Type 0} (tests : List Test) (table : List Sentence) (lines : List (ℕ × ℕ)) (before : X)
-    (outcome done : Answer × X) : Type 1 where
-  -- demand 1
-  pub exactly : Demand1Of tests table lines before outcome
-  -- what an answer with the number 0 tells
-  pub granted : answerNumber (outcome .0) ≡ 0 → Unrefused table outcome done
-  -- what the table tells of the answer
-  pub stops : {r : Refusal} → FirstOf table r → outcome ≡ (Refused r, before)
-  pub through : Fails table → outcome ≡ done
-
-module _ {X : Type 0} (before : X) (v : ℕ) (after : X) {tests : List Test} {table : List Sentence}
-    (decides : Decided tests table) where
-  abbrev outcome : Answer × X
-  outcome = tried tests (λ r. (Refused r, before)) (Done v, after)
-
-  stopped : {r : Refusal} → FirstOf table r → outcome ≡ (Refused r, before)
-  stopped = tried-stops (λ r. (Refused r, before)) (Done v, after) decides
-
-  passed : Fails table → outcome ≡ (Done v, after)
-  passed = tried-through (λ r. (Refused r, before)) (Done v, after) decides
-
-  is-first : (r : Refusal) → outcome .0 ≡ Refused r → FirstOf table r
-  is-first r e = go (first-or-fails decides)
-    where
-      go : FirstOrFails table → FirstOf table r
-      go (inl (q, first)) =
-          let told : Refused q ≡ Refused r = sym (ap (λ o. o .0) (stopped first)) ∙ e in
-          let same : q ≡ r = cc in
-          rw (← same) first
-      go (inr f) =
-          let told : Done v ≡ Refused r = sym (ap (λ o. o .0) (passed f)) ∙ e in
-          absurd (let z : _≡_ {A = ℕ} 0 1 = cc in omega arith)
-
-  refuses : RefusesExactly table before outcome
-  refuses = record {
-    given = λ r. (is-first r, λ first. ap (λ o. o .0) (stopped first));
-    kept = λ r e. ap (λ o. o .1) (stopped (is-first r e));
-  }
-
-  unrefused : answerNumber (outcome .0) ≡ 0 → Unrefused table outcome (Done v, after)
-  unfolding answerNumber
-  unrefused e = go (first-or-fails decides)
-    where
-      go : FirstOrFails table → Unrefused table outcome (Done v, after)
-      go (inl (r, first)) = absurd (never-zero r (sym (ap (λ o. answerNumber (o .0)) (stopped first)) ∙ e))
-      go (inr f) = record { refuted = held f; is-done = passed f }
-
-  pub call-of : {lines : List (ℕ × ℕ)} → Numbered table lines
-      → CallOf tests table lines before (tried tests (λ r. (Refused r, before)) (Done v, after)) (Done v, after)
-  call-of numbered = record {
-    exactly = record { numbered = numbered; decided = decides; refuses = refuses };
-    granted = unrefused;
-    stops = stopped;
-    through = passed;
-  }
