@@ -154,8 +154,10 @@ module _ (p : Profile) (f : Node) (r : Recording) (b : List ℕ) where
   pub wanted-none : AsWanted → NoneHolds (bundleSentences p f r b)
   unfolding bundleSentences stripSentences recordingBytes
   wanted-none w =
-      let places : (i : ℕ) → i < P → placeRead p b i ≡ plannedAt p f i = λ i l. sym (place-is p b i) ∙ w .is-placed i l in
-      let scenarios : (i : ℕ) → i < P → scenarioRead p b i ≡ recordingBytes r = λ i l. sym (scenario-is p b i) ∙ w .is-fresh i l in
+      let at-place : (i : ℕ) → i < P → placeRead p b i ≡ plannedAt p f i =
+      λ i l. sym (place-is p b i) ∙ w .is-placed i l in
+      let of-scenario : (i : ℕ) → i < P → scenarioRead p b i ≡ recordingBytes r =
+      λ i l. sym (scenario-is p b i) ∙ w .is-fresh i l in
       search line-by-line depth 9
 
   module _ (refuted : (q : Refusal) → Holds (bundleSentences p f r b) q → ⊥) where

@@ -1,12 +1,12 @@
--- What a table of refusals says of a call that tries its tests in order: `call-of`, once for all calls, over the list of
--- its tests. Profile.antt has the case of a call that is given a profile's numbers.
+-- What a table of refusals says of a call that tries its tests in order: `call-of`, once for all calls, over the list
+-- of its tests. Profile.antt has the case of a call that is given a profile's numbers.
 --
 -- never-zero                   : no refusal has the number 0
 -- tried-stops, tried-through   : a call, whatever it answers: the first of its table is given; where no line holds, all
 --                                its tests are tried in vain
 -- Unrefused table outcome done : what is known of a call where it is not refused
--- CallOf tests table lines before outcome done : what is known of a call with these tests and this table, lent `before`:
---                                its outcome is `done` where it is not refused
+-- CallOf tests table lines before outcome done : what is known of a call with these tests and this table that is lent
+--                                `before`: its outcome is `done` where it is not refused
 use mathlib.Core.Path.{_≡_, refl, sym, ap, _∙_}
 use mathlib.Core.Logic.{inl, inr}
 use mathlib.Core.List.{List}

@@ -1,12 +1,12 @@
--- What a table says of a call that is given a profile's numbers, and then tries tests of its own over an accepted profile:
--- `call-for`, the case of `call-of` whose table begins with the lines of a profile.
+-- What a table says of a call that is given a profile's numbers, and then tries tests of its own over an accepted
+-- profile: `call-for`, the case of `call-of` whose table begins with the lines of a profile.
 --
 -- accepted-none                : no line of an accepted profile holds
 -- past-profile                 : where no line holds, the profile is accepted, and no line of the call's own holds
--- profile-decided              : before tests that decide their lines for an accepted profile, a profile's decide theirs
+-- profile-decided              : a profile's tests decide their lines before tests that do so for an accepted profile
 -- Granted p table outcome done : what is known of a call with the numbers p where it is not refused
--- CallFor p tests table lines before outcome done : what is known of a call with the numbers p; its tests, its table and
---                                its lines are those past the profile's
+-- CallFor p tests table lines before outcome done : what is known of a call with the numbers p; its tests, its table
+--                                and its lines are those past the profile's
 use mathlib.Core.Path.{_≡_, refl, ap, _∙_}
 use mathlib.Core.Logic.{_⊎_, inl, inr}
 use mathlib.Core.List.{List, _++_}
@@ -77,7 +77,8 @@ module _ (p : Numbers) where
       (λ shape.
       line refl (decides-not _ (decides-constant (p .t)))
       (λ constant.
-      line refl (decides-same _ (decides-not _ (decides-strip (p .s))) (outside (p .s)) (inside (p .s))) (λ strip. none)))
+      line refl (decides-same _ (decides-not _ (decides-strip (p .s))) (outside (p .s)) (inside (p .s)))
+      (λ strip. none)))
 
   none-accepted : NoneHolds (profileSentences p) → Accepted (profileOf p)
   none-accepted f = failed-accepted p (decided-failed profile-lines f)
@@ -111,7 +112,9 @@ module _ {X : Type 0} (p : Numbers) (before : X) (tests : Profile → List Test)
     (decides : Accepted (profileOf p) → Decided (tests (profileOf p)) (table (profileOf p))) {lines : List (ℕ × ℕ)}
     (numbered : Numbered (table (profileOf p)) lines) where
   abbrev callOf : Answer × X
-  callOf = onAccepted p (λ r. (Refused r, before)) (λ q. tried (tests q) (λ r. (Refused r, before)) (Done (v q), after q))
+  callOf =
+      onAccepted p (λ r. (Refused r, before))
+      (λ q. tried (tests q) (λ r. (Refused r, before)) (Done (v q), after q))
 
   all-numbered : Numbered (profileSentences p ++ table (profileOf p)) (profileLines ++ lines)
   unfolding profileSentences numberOf indexOf

@@ -1,5 +1,5 @@
--- Reading back: demand 1, and demand 2, the rest: reading back that is done returns the only data with the columns, and a
--- request in due form is refused exactly when some two different data have equal columns.
+-- Reading back: demand 1, and demand 2, the rest: reading back that is done returns the only data with the columns, and
+-- a request in due form is refused exactly when some two different data have equal columns.
 use mathlib.Core.Path.{_≡_, refl, sym, _∙_}
 use mathlib.Core.Logic.{_↔_}
 use mathlib.Core.Bool.{false, _&&_}

@@ -1,6 +1,6 @@
 -- Strips at the planned places: some encoded array has them, and the column rebuilt from them is the one that each such
--- array has on the lost node. Over lists of bytes, for an accepted profile, any lost node and any walk that goes over each
--- candidate once.
+-- array has on the lost node. Over lists of bytes, for an accepted profile, any lost node and any walk that goes over
+-- each candidate once.
 use mathlib.Core.Path.{_≡_, refl, sym, ap, _∙_}
 use mathlib.Core.List.{List}
 use Prim.Native.Nat.{ℕ, _+_, _*_, _<_}

@@ -1,5 +1,5 @@
--- The survey: demand 1, what each outcome says is so, 'done' from the first set on means that every set can be read, and
--- surveys of adjoining ranges join into one.
+-- The survey: demand 1, what each outcome says is so, 'done' from the first set on means that every set can be read,
+-- and surveys of adjoining ranges join into one.
 use mathlib.Core.Path.{_≡_, refl, sym, ap, subst, _∙_}
 use mathlib.Core.Logic.{_⊎_, inl, inr}
 use mathlib.Core.List.{List, _++_}
@@ -75,7 +75,8 @@ module _ (p : Numbers) (start most : ℕ) (x : List ℕ) where
 
   told : answerOf (surveyOf p start most x)
       ≡ onAccepted p (λ r. (answers.Refused r, x))
-      (λ q. tried (surveyTests q start x) (λ r. (answers.Refused r, x)) (answers.Done (lookedAfter q), resultOf q start most x .1))
+      (λ q. tried (surveyTests q start x) (λ r. (answers.Refused r, x))
+      (answers.Done (lookedAfter q), resultOf q start most x .1))
   unfolding surveyOf surveyWith surveyAnswer answerValue
   told =
       on-accepted-map answerOf p (λ r. (Refused r, x)) (λ q. surveyWith q start most x)
@@ -86,8 +87,8 @@ module _ (p : Numbers) (start most : ℕ) (x : List ℕ) where
     where
       is-done : surveyAnswer (resultOf (profileOf p) start most x .0) ≡ answers.Done (lookedAfter (profileOf p))
       is-done =
-          by-result (profileOf p) start most x (λ s. surveyAnswer (s .0) ≡ answers.Done (answerValue (surveyAnswer (s .0))))
-          (λ h. refl) (λ h e. refl) (λ h e. refl)
+          by-result (profileOf p) start most x
+          (λ s. surveyAnswer (s .0) ≡ answers.Done (answerValue (surveyAnswer (s .0)))) (λ h. refl) (λ h e. refl) (λ h e. refl)
 
   pub demand-1-survey : Demand1Survey p start most x
   unfolding surveySentences numberOf indexOf

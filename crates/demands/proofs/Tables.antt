@@ -1,12 +1,12 @@
 -- The laws of tables of refusals, and of tests that decide them.
 --
 -- decided         : what is decided and not refuted holds
--- Holds table r   : some line of the refusal r holds. `search by-name` finds it, wherever it stands, where what it says is
---                   at hand
+-- Holds table r   : some line of the refusal r holds. `search by-name` finds it, wherever it stands, where what it says
+--                   is at hand
+-- FirstOf table r : `search in-order` shows it, where what r says is at hand and what refutes the lines before it
 -- Only Q table    : the lines that hold are of refusals as Q says. `search line-by-line` goes over them, where what is
 --                   needed of each is at hand
--- NoneHolds table : no line holds; `search line-by-line` shows it too
--- FirstOf table r : `search in-order` finds the first line that holds, where those before it are refuted by what is at hand
+-- NoneHolds table : no line holds. `search line-by-line` shows this too
 -- first-or-none   : some refusal is the first of a table that tests decide, or no line holds
 use mathlib.Core.Path.{_≡_, refl, ap}
 use mathlib.Core.Logic.{_⊎_, inl, inr}

@@ -110,7 +110,8 @@ module _ (x y : List ℕ) where
 
 -- ---- all its bytes: it is the bundle cut, for the wanted recording, from any array with its strips
 module _ (p : Profile) (acc : Accepted p) (f : Node) (below : f .0 < p .n) (r : Recording) (b x : List ℕ)
-    (w : AsWanted p f r b) (size : length x ≡ p .n * p .a * p .s) (has : HasStrips p (planned p f) x (stripIn p b)) where
+    (w : AsWanted p f r b) (size : length x ≡ p .n * p .a * p .s)
+    (has : HasStrips p (planned p f) x (stripIn p b)) where
   abbrev cut : List ℕ
   cut = bundleOf p f r x
 

@@ -1,5 +1,6 @@
 -- The bundle: when writing one is refused, what it leaves, and what a reader tests.
 --
+-- Shown in proofs/Cut.antt, under the name beside each:
 -- writeSentences p f x b  : the lines for cutting a bundle from the array x, written into b, past those of a profile
 -- Demand1Write p f r x b  : writing a bundle refuses as they say                                    demand-1-write
 -- WrittenBundle p f r x b : what cutting a bundle from x, written into b, leaves and answers
@@ -11,9 +12,8 @@
 -- placeRead p b i         : the place of strip i in the bundle b
 -- scenarioRead p b i      : its scenario number
 -- stripSentences p f r b  : the lines for the strips of a bundle to read
--- bundleSentences p f r b : the lines for a bundle to read, where the profile p, the lost node f and the recording r are
---                           wanted. A reader's tests decide them                                    bundle-decided
--- Shown in proofs/Bundle.antt, under the name beside each.
+-- bundleSentences p f r b : the lines for a bundle to read, where the profile p, the lost node f and the recording r
+--                           are wanted. A reader's tests decide them: proofs/Bundle.antt, bundle-decided
 --
 -- planned p f are the planned places, stripIn p b i is the strip i of the bundle b: document/specs/Plan.antt and
 -- Bundle.antt. The numbers are document 01's own: 17 + P(9+S), and what a field 03 is counted from.
@@ -62,7 +62,8 @@ writeSentences p f x b =
 abbrev pub Demand1Write : Numbers → ℕ → Recording → List ℕ → List ℕ → Type 1
 Demand1Write p f r x b =
     let lost : Node = record { 0 = f } in
-    Demand1For p (λ q. writeTests q lost x b) (λ q. writeSentences q lost x b) ((4, 0) ∷ (5, 0) ∷ []) b (writeOf p f r x b)
+    Demand1For p (λ q. writeTests q lost x b) (λ q. writeSentences q lost x b) ((4, 0) ∷ (5, 0) ∷ []) b
+    (writeOf p f r x b)
 
 module _ (p : Numbers) (f : ℕ) (r : Recording) (x b : List ℕ) where
   abbrev written : List ℕ
@@ -116,8 +117,9 @@ placeRead p b i = place (getD b (17 + i * (9 + p .s) + 3) 0) (getD b (17 + i * (
 abbrev pub scenarioRead : Profile → List ℕ → ℕ → List ℕ
 scenarioRead p b i = slice b (17 + i * (9 + p .s) + 5) 4
 
--- 8: 'some strip's place differs from the plan's', with its index. 9: 'some strip's scenario differs from the wanted one',
--- with its index. 'The lowest number that applies is the answer, also where a stale strip stands before a misplaced one.'
+-- 8: 'some strip's place differs from the plan's', with its index. 9: 'some strip's scenario differs from the wanted
+-- one', with its index. 'The lowest number that applies is the answer, also where a stale strip stands before a misplaced
+-- one.'
 unfoldable pub stripSentences : Profile → Node → Recording → List ℕ → List Sentence
 stripSentences p f r b =
     listed (length (planned p f)) (λ i. record { refusal = Misplaced i; says = placeRead p b i ≢ plannedAt p f i })

@@ -33,8 +33,8 @@ pub record Demand3 : Type 0 where
   -- 'No byte elsewhere, old or new, changes the rebuild.'
   pub same-strips : (p : Numbers) (f : ℕ) → SameStrips p f
   pub same-bundle : (p : Numbers) (f : ℕ) → SameBundle p f
-  -- 'Take any two stored arrays alike at the planned places, ..: rebuilds from bundles cut from them, where not refused,
-  -- write the same column, ..'
+  -- 'Take any two stored arrays alike at the planned places, ..: rebuilds from bundles cut from them, where not
+  -- refused, write the same column, ..'
   pub same-column : (p : Numbers) (f : ℕ) → SameColumn p f
   pub cut-for-wanted : (p : Numbers) (f : ℕ) → CutForWanted p f
   -- 'Any two rebuilds given equal bundles, the same wanted numbers and buffers of equal length give the same answer'

@@ -1,10 +1,10 @@
--- Planning: when it is refused, and demand 3, first sentences: 'For every accepted profile .. and every dead drive, the
--- plan names the places that its steps in document 01 list, in that order: distinct places, none on the dead drive. Their
--- number is the one the plan, where not refused, answers with, and it equals the formula there.'
+-- Planning: when it is refused, and demand 3, first sentences: 'For every accepted profile .. and every dead drive,
+-- the plan names the places that its steps in document 01 list, in that order: distinct places, none on the dead drive.
+-- Their number is the one the plan, where not refused, answers with, and it equals the formula there.'
 --
 -- planSentences p f x  : the lines for planning the rebuild of node f into x, past those of a profile
 -- Demand1Plan p f x    : planning refuses as they say                                              demand-1-plan
--- PlannedPlaces p f qs : the places qs are distinct places of the array, none is on f, and their number is the formula's
+-- PlannedPlaces p f qs : the places qs are distinct places of the array, none on f, and their number is the formula's
 -- Demand3Places        : so they are over any walk that goes over each candidate once              demand-3-places
 -- Demand3Walk          : document 01's walk is one such, and `planned` is the plan over it         demand-3-walk
 -- NamedPlaces p f x    : what planning the rebuild of node f into x leaves and answers

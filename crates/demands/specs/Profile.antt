@@ -2,8 +2,8 @@
 --
 -- profileSentences p : the lines for a profile's numbers
 -- profileLines       : their numbers
--- Demand1For p tests table lines before outcome : a call that is given the numbers p refuses by these lines, and then by
---                      its own, for an accepted profile. Shown in proofs/Profile.antt: call-exactly
+-- Demand1For p tests table lines before outcome : a call that is given the numbers p refuses by these lines, and then
+--                      by its own, for an accepted profile. Shown of every such call in proofs/Profile.antt: call-for
 use mathlib.Core.Path.{_≡_}
 use mathlib.Core.Logic.{_⊎_}
 use mathlib.Core.List.{List, [], _∷_, _++_}
@@ -31,5 +31,5 @@ profileLines = (1, 0) ∷ (2, 0) ∷ (3, 0) ∷ []
 abbrev pub Demand1For : {X : Type 0} → Numbers → (Profile → List Test) → (Profile → List Sentence) → List (ℕ × ℕ)
     → X → Answer × X → Type 1
 Demand1For p tests table lines before outcome =
-    Demand1Of (profileTests p ++ tests (profileOf p)) (profileSentences p ++ table (profileOf p)) (profileLines ++ lines)
-    before outcome
+    Demand1Of (profileTests p ++ tests (profileOf p)) (profileSentences p ++ table (profileOf p))
+    (profileLines ++ lines) before outcome

@@ -8,7 +8,7 @@
 -- lent input          : the column that the program lends to the rebuild
 -- own input           : the lines of that rebuild past those of the profile
 -- table input         : its table
--- ProgramWrites input : the column where the rebuild is not refused, otherwise the line of the first refusal, never of 5
+-- ProgramWrites input : the column where the rebuild is not refused, otherwise the line of its first refusal; never 5
 -- Demand1Program      : so it is for all inputs
 -- Shown in proofs/Program.antt: demand-1-program.
 use mathlib.Core.Path.{_≡_}

@@ -1,8 +1,9 @@
--- Reading back: when it is refused, and demand 2, the rest: 'Reading back from k named drives returns the only data whose
--- array has those columns. A request in due form is refused exactly when some two different data sets give equal columns
--- on those drives.'
+-- Reading back: when it is refused, and demand 2, the rest: 'Reading back from k named drives returns the only data
+-- whose array has those columns. A request in due form is refused exactly when some two different data sets give equal
+-- columns on those drives.'
 --
--- readSentences p nodes x y : the lines for reading back the columns x of the named nodes into y, past those of a profile
+-- readSentences p nodes x y : the lines for reading the columns x of the named nodes back into y, past those of a
+--                             profile
 -- Demand1Read p nodes x y   : reading back refuses as they say                                      demand-1-read
 -- InDueForm p nodes x y     : the request is in due form: profile, list and lengths
 -- OnlyData p nodes x d      : d are data whose array has the columns x on the named nodes, and no other data have them
@@ -30,8 +31,8 @@ use Rattle.document.specs.Reading.{joinedColumns, TwoData, readTests, readOf}
 use Rattle.demands.specs.Tables.{Sentence}
 use Rattle.demands.specs.Profile.{Demand1For}
 
--- 4: 'node list not k strictly rising numbers below n'. 5: columns and data have kAS bytes each. 10: 'some two different
--- data give equal columns on these nodes'.
+-- 4: 'node list not k strictly rising numbers below n'. 5: columns and data have kAS bytes each. 10: 'some two
+-- different data give equal columns on these nodes'.
 unfoldable pub readSentences : Profile → List ℕ → List ℕ → List ℕ → List Sentence
 readSentences p nodes x y =
     record { refusal = OutOfRange; says = Rising (p .n) (p .k) nodes → ⊥ }

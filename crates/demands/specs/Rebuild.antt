@@ -1,10 +1,10 @@
--- A rebuild: when it is refused, and demand 3, from the bundle on: 'the rebuilt column is the one every such array has on
--- that drive. No byte elsewhere, old or new, changes the rebuild. ..'
+-- A rebuild: when it is refused, and demand 3, from the bundle on: 'the rebuilt column is the one every such array has
+-- on that drive. No byte elsewhere, old or new, changes the rebuild. ..'
 --
 -- rebuildSentences p f r b y : the lines for rebuilding node f from the bundle b into y, past those of a profile
 -- Demand1Rebuild p f r b y   : a rebuild refuses as they say                                        demand-1-rebuild
 -- NotRefused p f r b y       : a rebuild of node f from the bundle b, into y, is not refused
--- RebuiltColumn p f r b y    : some encoded array has the strips of b, and the rebuilt column is that of each such array
+-- RebuiltColumn p f r b y    : some encoded array has the strips of b; the rebuilt column is that of each such array
 --
 -- The statements of demand 3; Demand3.antt puts them together:
 -- Demand3Rebuild             : a rebuild that is not refused                                        demand-3-rebuild
@@ -16,9 +16,8 @@
 -- CutColumn                  : the column rebuilt from a bundle cut from any stored array           cut-column
 -- CutRebuilds                : from an encoded array, the rebuild gives the lost column back        cut-rebuilds
 -- CutForWanted               : a bundle cut for other numbers than the wanted ones is refused       cut-for-wanted
--- WholeBundle                : what is not refused is the bundle cut from any array with its strips whole-bundle
--- Shown in proofs/Rebuild.antt, under the name beside each; from SameColumn to CutForWanted but SameAnswer in proofs/Cut.antt
--- and the last in proofs/Whole.antt.
+-- WholeBundle                : what is not refused is what is cut from any array with its strips    whole-bundle
+-- Shown in proofs/Rebuild.antt, under the name beside each.
 --
 -- planned p f are the planned places, stripIn p b i is the strip i of the bundle b: document/specs/Plan.antt and
 -- Bundle.antt.

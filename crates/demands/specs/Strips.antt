@@ -1,15 +1,15 @@
--- Demand 3, what a rebuild rests on: 'Whatever bytes stand at those places, some encoded array has them, and the rebuilt
--- column is the one every such array has on that drive.'
+-- Demand 3, what a rebuild rests on: 'Whatever bytes stand at those places, some encoded array has them, and the
+-- rebuilt column is the one every such array has on that drive.'
 --
--- Bytes x            : each entry of x is a byte
--- EncodedArray p x   : x is an encoded array
--- HasStrips p qs x v : x has the strip v i at place i of qs, for each of the places qs
--- AlikeAt p qs x y   : the arrays x and y are alike at the places qs
--- columnIn p x j     : the column of node j in the array x
--- FitsOver p f w     : any bytes at the planned places stand in some encoded array, over the walk w
+-- Bytes x             : each entry of x is a byte
+-- EncodedArray p x    : x is an encoded array
+-- HasStrips p qs x v  : x has the strip v i at place i of qs, for each of the places qs
+-- AlikeAt p qs x y    : the arrays x and y are alike at the places qs
+-- columnIn p x j      : the column of node j in the array x
+-- FitsOver p f w      : any bytes at the planned places stand in some encoded array, over the walk w
 -- OneColumnOver p f w : encoded arrays alike at the planned places have the same lost column, over the walk w
--- Fits               : the first, for every accepted profile, dead drive and complete walk         fits
--- OneColumn          : the second                                                                  one-column
+-- Fits                : the first, for every accepted profile, dead drive and complete walk        fits
+-- OneColumn           : the second                                                                 one-column
 -- Shown in proofs/Strips.antt, under the name beside each.
 --
 -- planOver A k f w are the planned places over the walk w, stripOf p x q is the strip at the place q of the array x:

@@ -1,11 +1,12 @@
--- The survey, in document 01's words: when it is refused, what each outcome says of the sets, and what it says of readings.
+-- The survey, in document 01's words: when it is refused, what each outcome says of the sets, and what it says of
+-- readings.
 --
 -- surveySentences p start x      : the lines for a survey from a position on, into x, past those of a profile
 -- Demand1Survey p start most x   : a survey refuses as they say. Shown in proofs/Survey.antt: demand-1-survey
 -- Fails p pos                    : the set at a position fails
 -- NoneFails p from to            : no set from the position `from` on and before `to` fails
 -- Tells p start most x outcome   : what the outcome of a survey says, by its three cases
--- joinedOutcome first second     : the outcome of two surveys together, where the second goes on where the first stopped
+-- joinedOutcome first second     : the outcome of two surveys together: the second goes on where the first stopped
 -- SurveyTells                    : a survey that is not refused says what holds of the sets
 -- TestOfFailing                  : the survey's test of a set is true exactly if the set fails
 -- FailsInReading                 : a set fails exactly if readings from it are refused with 10
@@ -65,10 +66,10 @@ module _ (p : Profile) where
   abbrev pub NoneFails : ℕ → ℕ → Type 0
   NoneFails from to = (pos : ℕ) → from ≤ pos → pos < to → Fails pos → ⊥
 
-  -- What the answer, and the buffer after it, say of a survey of at most `most` sets from `start` on, lent the buffer x.
+  -- What the answer, and the buffer after it, say of a survey of at most `most` sets from `start` on, lent x.
   pub data Tells (start most : ℕ) (x : List ℕ) : Surveyed × List ℕ → Type 0 where
-    -- 'failing, with position (counted from the first set of all, whatever the start) and the set written out'; 'up to and
-    -- with the first failing one, if it is among the first B from the start'
+    -- 'failing, with position (counted from the first set of all, whatever the start) and the set written out'; 'up to
+    -- and with the first failing one, if it is among the first B from the start'
     failing : {pos looked : ℕ} → start ≤ pos → pos < sets n k → Fails pos → NoneFails start pos
         → start + looked ≡ pos + 1 → looked ≤ most → Tells start most x (Failing pos looked, setAt 0 n k pos)
     -- 'it is done if none is left after that': all that was left was looked at
@@ -119,8 +120,8 @@ joinedOutcome (Open looked, x) (Done more, y) = (Done (looked + more), y)
 joinedOutcome (Open looked, x) (Open more, y) = (Open (looked + more), y)
 joinedOutcome (Open looked, x) (Refused r, y) = (Refused r, y)
 
--- Surveys of two ranges, one after the other, are one survey. The second is lent x too: it matters only where the first was
--- open, and then the first left x as it was.
+-- Surveys of two ranges, one after the other, are one survey. The second is lent x too: it matters only where the
+-- first was open, and then the first left x as it was.
 abbrev pub SurveysJoin : Type 0
 SurveysJoin =
     (p : Numbers) (start most more : ℕ) (x : List ℕ)

@@ -1,18 +1,19 @@
--- What a table of refusals is, and demand 1 for any call: 'Each refusal is one of the ten in document 01 .., given exactly
--- when its condition is the first that holds in the order they are tried .., and it changes no byte that was lent.'
+-- What a table of refusals is, and demand 1 for any call: 'Each refusal is one of the ten in document 01 .., given
+-- exactly when its condition is the first that holds in the order they are tried .., and it changes no byte that was
+-- lent.'
 --
 -- Sentence                            : a refusal, and what document 01's table says of it, for one call
 -- FirstOf table r                     : r is the first refusal in the table whose condition holds
 -- RefusesExactly table before outcome : a call with this outcome, lent the bytes `before`, refuses as the table says
--- Decided tests table                 : the tests that a call makes decide the sentences of the table, line by line, each
---                                       where those before it do not hold
+-- Decided tests table                 : the tests that a call makes decide the sentences of the table, line by line,
+--                                       each where those before it do not hold
 -- numberIn s                          : the number of a line, and the index that it comes with
 -- Numbered table lines                : the table's lines have these numbers, and come with these indices
--- Demand1Of tests table lines before outcome : a call with these tests and this outcome refuses as its table says, which
---                                       has document 01's numbers
+-- Demand1Of tests table lines before outcome : a call with these tests and this outcome refuses as its table says,
+--                                       which has document 01's numbers
 --
--- For a call that tries its tests in order, shown in proofs/Tables.antt: tried-exactly. Profile.antt has the case of a
--- call that is given a profile's numbers; each call's table and its own case are in the file of that call.
+-- Shown of every call that tries its tests in order in proofs/Calls.antt: call-of. Profile.antt has the case of a call
+-- that is given a profile's numbers; each call's table, and demand 1 for it, are in the file of that call.
 use mathlib.Core.Path.{_≡_}
 use mathlib.Core.Logic.{_↔_}
 use mathlib.Core.List.{List, [], _∷_, map}
