@@ -158,7 +158,7 @@ module _ (p : Profile) (f : Node) (r : Recording) (b : List ℕ) where
       λ i l. sym (place-is p b i) ∙ w .is-placed i l in
       let of-scenario : (i : ℕ) → i < P → scenarioRead p b i ≡ recordingBytes r =
       λ i l. sym (scenario-is p b i) ∙ w .is-fresh i l in
-      search line-by-line depth 9
+      search line-by-line depth 20
 
   module _ (refuted : (q : Refusal) → Holds (bundleSentences p f r b) q → ⊥) where
     pub refuted-wanted : AsWanted

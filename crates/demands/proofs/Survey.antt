@@ -88,7 +88,8 @@ module _ (p : Numbers) (start most : ℕ) (x : List ℕ) where
       is-done : surveyAnswer (resultOf (profileOf p) start most x .0) ≡ answers.Done (lookedAfter (profileOf p))
       is-done =
           by-result (profileOf p) start most x
-          (λ s. surveyAnswer (s .0) ≡ answers.Done (answerValue (surveyAnswer (s .0)))) (λ h. refl) (λ h e. refl) (λ h e. refl)
+          (λ s. surveyAnswer (s .0) ≡ answers.Done (answerValue (surveyAnswer (s .0))))
+          (λ h. refl) (λ h e. refl) (λ h e. refl)
 
   pub demand-1-survey : Demand1Survey p start most x
   unfolding surveySentences numberOf indexOf

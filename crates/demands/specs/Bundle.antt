@@ -118,8 +118,8 @@ abbrev pub scenarioRead : Profile → List ℕ → ℕ → List ℕ
 scenarioRead p b i = slice b (17 + i * (9 + p .s) + 5) 4
 
 -- 8: 'some strip's place differs from the plan's', with its index. 9: 'some strip's scenario differs from the wanted
--- one', with its index. 'The lowest number that applies is the answer, also where a stale strip stands before a misplaced
--- one.'
+-- one', with its index. 'The lowest number that applies is the answer, also where a stale strip stands before a
+-- misplaced one.'
 unfoldable pub stripSentences : Profile → Node → Recording → List ℕ → List Sentence
 stripSentences p f r b =
     listed (length (planned p f)) (λ i. record { refusal = Misplaced i; says = placeRead p b i ≢ plannedAt p f i })
