@@ -1,6 +1,6 @@
 -- Strips at the planned places: some encoded array has them, and the column rebuilt from them is the one that each such
--- array has on the lost node. Over lists of bytes, for an accepted profile, any lost node
--- and any walk that goes over each candidate once.
+-- array has on the lost node. Over lists of bytes, for an accepted profile, any lost node and any walk that goes over
+-- each candidate once.
 use mathlib.Core.Path.{_≡_, refl, sym, ap, _∙_}
 use mathlib.Core.List.{List}
 use Prim.Native.Nat.{ℕ, _+_, _*_, _<_}
@@ -20,16 +20,8 @@ use Rattle.document.specs.Plan.{Walk, chosenOver, planOver}
 use Rattle.document.specs.Bundle.{stripFieldLength, stripOf, stripIn}
 use Rattle.document.specs.Rebuild.{positionOf, givenAt, rebuiltOver, firstStrip}
 use Rattle.document.proofs.Bytes.{number-byte}
-use Rattle.document.proofs.Walks.{Sound}
-use Rattle.document.proofs.Chosen.{
-  choice,
-  outside,
-  shape,
-  listed-planned,
-  planned-listed,
-  position,
-  planned-within,
-}
+use Rattle.document.proofs.Walks.{Sound, complete-sound}
+use Rattle.document.proofs.Chosen.{choice, outside, shape, listed-planned, planned-listed, position, planned-within}
 use Rattle.document.proofs.Columns.{
   Alike,
   rebuilt-alike,
@@ -41,8 +33,8 @@ use Rattle.document.proofs.Columns.{
   given-strip,
 }
 use Rattle.demands.specs.Encoding.{DocumentArray}
-use Rattle.demands.specs.Rebuild.{Bytes, EncodedArray, HasStrips, columnIn}
-use Rattle.demands.proofs.Demand2.{encoded-is, encoded-only}
+use Rattle.demands.specs.Strips.{Bytes, EncodedArray, HasStrips, columnIn, Fits, OneColumn}
+use Rattle.demands.proofs.Encoding.{encoded-is, encoded-only}
 
 module _ (p : Profile) (acc : Accepted p) (f : Node) (h : f .0 < p .n) (w : Walk)
     (sound : Sound (p .n) (p .a) f w) where
@@ -156,3 +148,14 @@ module _ (p : Profile) (acc : Accepted p) (f : Node) (h : f .0 < p .n) (w : Walk
 
     pub some-fits : (x : List ℕ) × EncodedArray p x × HasStrips p plan x v
     some-fits = (array, record { given = found .0; gives = is-array }, has)
+
+-- ---- for every complete walk
+pub fits : Fits
+fits p acc f h w complete = some-fits p acc f h w (complete-sound p acc f h w complete)
+
+pub one-column : OneColumn
+one-column p acc f h w complete x y X Y alike =
+    let sound : Sound (p .n) (p .a) f w = complete-sound p acc f h w complete in
+    let strips : ℕ → List ℕ = λ i. stripOf p y (getD (planOver (p .a) (p .k) f w) i (place 0 0)) in
+    sym (column-of p acc f h w sound x X strips alike (byteAt p y) (array-gives p acc f h w sound y))
+    ∙ column-of p acc f h w sound y Y strips (λ i l. refl) (byteAt p y) (array-gives p acc f h w sound y)

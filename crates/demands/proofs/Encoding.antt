@@ -1,21 +1,36 @@
--- Demand 2, first sentence: the encoded array is what document 01 defines, nothing else is, and encoding writes it.
+-- Encoding: demand 1, and demand 2, first sentence: the encoded array is what document 01 defines, nothing else is, and
+-- encoding writes it.
 use mathlib.Core.Path.{_≡_, refl, sym, _∙_}
-use mathlib.Core.List.{List}
+use mathlib.Core.Bool.{_&&_}
+use mathlib.Core.List.{List, [], _∷_}
 use Prim.Native.Nat.{ℕ, _+_, _*_, _/_, _%_, _<_}
 use native.Mathlib.Decide.{ℕ-discrete, decLt}
 use native.Mathlib.Omega.{arith}
+use lib.Dec.{eqb}
 use lib.ListN.{length}
 use Rattle.algebra.specs.Polynomial.{eval}
 use Rattle.algebra.specs.RowCode.{Choice, Codeword}
 use Rattle.algebra.proofs.RowCode.{determined}
+use Rattle.document.specs.declared.Numbers.{Numbers}
 use Rattle.document.specs.declared.Profile.{Profile}
 use Rattle.document.specs.declared.Place.{Place}
+use Rattle.document.specs.declared.Refusal.the-variants.{BufferLength}
 use Rattle.document.specs.declared.Answer.the-variants.{Done}
-use Rattle.document.specs.Refusals.{answerValue}
+use Rattle.document.specs.Refusals.{numberOf, indexOf, answerValue, Decides}
 use Rattle.document.specs.Profile.{Accepted, profileOf}
 use Rattle.document.specs.Places.{place, partnerOf, Within}
 use Rattle.document.specs.Bytes.{bytes, Byte, byte}
-use Rattle.document.specs.Encoding.{byteAt, baseAt, constantOf, coupledAt, laidOut, encoded, encodeOf}
+use Rattle.document.specs.Encoding.{
+  byteAt,
+  baseAt,
+  constantOf,
+  coupledAt,
+  laidOut,
+  encoded,
+  encodeTests,
+  encodeWith,
+  encodeOf,
+}
 use Rattle.document.proofs.Bytes.{points-distinct}
 use Rattle.document.proofs.Bounds.{partner-within}
 use Rattle.document.proofs.Rows.{row-word, row-data}
@@ -30,13 +45,38 @@ use Rattle.document.proofs.Arrays.{
   coupled-lower,
   coupled-ext,
 }
-use Rattle.demands.specs.Refusals.{encodeSentences}
-use Rattle.demands.specs.Encoding.{DocumentArray, OneArray, Demand2Encode}
 use Rattle.document.specs.declared.Refusal.the-variants.{BufferLength}
 use Rattle.document.proofs.Decides.{decides-eq}
-use Rattle.demands.proofs.Tables.{decided, this, Granted}
-use Rattle.demands.proofs.Demand1.{encode-granted}
+use Rattle.document.proofs.Decides.{decides-eq, decides-both, decides-not}
+use Rattle.demands.specs.Tables.{Decided, none, line}
+use Rattle.demands.specs.Encoding.{encodeSentences, Demand1Encode, DocumentArray, OneArray, Demand2Encode}
+use Rattle.demands.proofs.Tables.{decided, by-name}
+use Rattle.demands.proofs.Profile.{Granted, CallFor, call-for}
 
+-- ---- the call
+abbrev Sizes : Profile → List ℕ → List ℕ → Type 0
+Sizes p d x = (length d ≡ p .k * p .a * p .s) × (length x ≡ p .n * p .a * p .s)
+
+decides-sizes : (p : Profile) (d x : List ℕ)
+    → Decides (eqb (length d) (p .k * p .a * p .s) && eqb (length x) (p .n * p .a * p .s)) (Sizes p d x)
+decides-sizes p d x = decides-both _ _ (decides-eq (length d) _) (decides-eq (length x) _)
+
+encode-decided : (p : Profile) (d x : List ℕ) → Decided (encodeTests p d x) (encodeSentences p d x)
+unfolding encodeTests encodeSentences
+encode-decided p d x = line refl (decides-not _ (decides-sizes p d x)) (λ l. none)
+
+module _ (p : Numbers) (d x : List ℕ) where
+  encode-call : CallFor p (λ q. encodeTests q d x) (λ q. encodeSentences q d x) ((5, 0) ∷ []) x (encodeOf p d x)
+      (Done 0, encoded (profileOf p) d)
+  unfolding encodeOf encodeWith encodeSentences numberOf indexOf
+  encode-call =
+      call-for p x (λ q. encodeTests q d x) (λ q. encodeSentences q d x) (λ q. 0) (λ q. encoded q d)
+      (λ acc. encode-decided _ d x) refl
+
+  pub demand-1-encode : Demand1Encode p d x
+  demand-1-encode = encode-call .exactly
+
+-- ---- the encoded array
 module _ (p : Profile) where
   open Profile p using (n, k, a as A, s as S)
 
@@ -116,10 +156,11 @@ one-array p acc d x y X Y = encoded-only p acc d x X ∙ sym (encoded-only p acc
 -- Encoding writes it.
 pub demand-2-encode : Demand2Encode
 unfolding encodeSentences answerValue
-demand-2-encode p d x e = (rw (granted .is-done) refl, rw (granted .is-done) (encoded-is (profileOf p) (granted .accepted) d size))
+demand-2-encode p d x e =
+    (rw (granted .is-done) refl, rw (granted .is-done) (encoded-is (profileOf p) (granted .accepted) d (sizes .0)))
   where
     granted : Granted p (encodeSentences (profileOf p) d x) (encodeOf p d x) (Done 0, encoded (profileOf p) d)
-    granted = encode-granted p d x e
+    granted = encode-call p d x .granted e
 
-    size : length d ≡ p .k * p .a * p .s
-    size = decided _ (decides-eq (length d) _) (λ n. granted .refuted {r = BufferLength} (this (λ h. n (h .0))))
+    sizes : Sizes (profileOf p) d x
+    sizes = decided _ (decides-sizes (profileOf p) d x) (λ n. granted .refuted {r = BufferLength} (search by-name))
