@@ -1,171 +1,158 @@
--- A bundle to read: where its fields stand, in document 01's numbers, and what a reader's tests decide.
---
--- AsWanted p f r b : the bundle b is as wanted for the profile p, the lost node f and the recording r: what holds of it
---                    exactly where no line of `bundleSentences` does (wanted-none, refuted-wanted)
-use mathlib.Core.Path.{_≡_, refl, sym, ap, ap₂, _∙_}
-use mathlib.Core.List.{List, _∷_, _++_}
+-- The bundle: writing one, demand 1, and what is cut from a stored array.
+use mathlib.Core.Path.{_≡_, refl, sym, ap, _∙_}
+use mathlib.Core.Bool.{_&&_}
+use mathlib.Core.List.{List, [], _∷_}
 use Prim.Native.Nat.{ℕ, _+_, _*_, _<_}
-use native.Mathlib.Omega.{arith}
-use lib.ListN.{length, getD}
-use Rattle.lists.specs.Listed.{listed}
-use Rattle.lists.specs.Put.{slice}
-use Rattle.fields.specs.Fields.{twoBytes, opening}
+use lib.Dec.{eqb}
+use lib.ListN.{length}
+use Rattle.lists.specs.Each.{Each}
+use Rattle.lists.proofs.Each.{each-from}
+use Rattle.fields.specs.Fields.{fourBytes}
+use Rattle.document.specs.declared.Numbers.{Numbers}
 use Rattle.document.specs.declared.Profile.{Profile}
 use Rattle.document.specs.declared.Node.{Node}
 use Rattle.document.specs.declared.Recording.{Recording}
-use Rattle.document.specs.declared.Refusal.{Refusal}
-use Rattle.document.specs.declared.Refusal.the-variants.{BundleForm, BundleHead, Misplaced, Stale}
-use Rattle.document.specs.Refusals.{numberOf, indexOf, Decides}
+use Rattle.document.specs.declared.Refusal.the-variants.{OutOfRange, BufferLength}
+use Rattle.document.specs.declared.Answer.the-variants.{Done}
+use Rattle.document.specs.Refusals.{numberOf, indexOf, answerNumber, answerValue, Decides}
+use Rattle.document.specs.Profile.{Accepted, profileOf}
 use Rattle.document.specs.Places.{place}
-use Rattle.document.specs.Plan.{planned, plannedAt}
+use Rattle.document.specs.Plan.{planned}
+use Rattle.document.specs.Encoding.{stripOf}
+use Rattle.document.specs.Message.{recordingBytes}
 use Rattle.document.specs.Bundle.{
-  recordingBytes,
-  profileContent,
   lostContent,
-  stripFieldLength,
   bundleLength,
-  stripFieldStart,
-  placeIn,
-  recordingIn,
-  openedAt,
-  formed,
-  headed,
-  placed,
-  fresh,
-  bundleTests,
+  bundleOf,
+  writeTests,
+  writeWith,
+  writeOf,
+  bundleStrip,
 }
-use Rattle.document.proofs.Decides.{
-  decides-eq,
-  decides-both,
-  decides-not,
-  decides-same,
-  decides-list,
-  decides-all,
-  decides-place,
-}
-use Rattle.demands.specs.Tables.{Decided, line, numberIn, Numbered}
-use Rattle.demands.specs.Bundle.{Formed, Headed, placeRead, scenarioRead, stripSentences, bundleSentences}
-use Rattle.demands.proofs.Tables.{
-  decided,
-  Holds,
-  by-name,
-  NoneHolds,
-  line-by-line,
-  decided-listed,
-  decided-then,
-  map-listed,
-  map-append,
-}
+use Rattle.document.proofs.Decides.{decides-lt, decides-eq, decides-both, decides-not, decides-same}
+use Rattle.document.proofs.Price.{planned-price}
+use Rattle.document.proofs.Message.{Whole, written-strip, message-ext}
+use Rattle.document.proofs.Bundle.{strips-whole, bundle-length}
+use Rattle.demands.specs.Tables.{Decided, none, line}
+use Rattle.demands.specs.Strips.{HasStrips, AlikeAt}
+use Rattle.demands.specs.Bundle.{writeSentences, Demand1Write, WrittenBundle, Demand3Write, CutFrom}
+use Rattle.demands.proofs.Tables.{decided, by-name}
+use Rattle.demands.proofs.Profile.{Granted, CallFor, call-for}
+use Rattle.demands.proofs.Message.{length-is, AsWanted, written-wanted}
+use Rattle.demands.proofs.Whole.{all-fixed}
 
--- ---- where the fields stand
--- the numbers of document 01, 17 + i(9+S), are where a field 03 starts, and what its parts are counted from
-field-is : (p : Profile) (i : ℕ) → stripFieldStart p i ≡ 17 + i * (9 + p .s)
-unfolding stripFieldStart
-field-is p i =
-    let e : stripFieldLength (p .s) ≡ 9 + p .s = omega arith in ap (λ (w : ℕ). 17 + i * w) e
+-- ---- the call
+module _ (p : Profile) (f : Node) (x b : List ℕ) where
+  abbrev Sizes : Type 0
+  Sizes = (length x ≡ p .n * p .a * p .s) × (length b ≡ 17 + length (planned p f) * (9 + p .s))
 
-pub length-is : (p : Profile) (f : Node) → bundleLength p f ≡ 17 + length (planned p f) * (9 + p .s)
-unfolding stripFieldStart
-length-is p f = field-is p (length (planned p f))
+  decides-sizes : Decides (eqb (length x) (p .n * p .a * p .s) && eqb (length b) (bundleLength p f)) Sizes
+  decides-sizes =
+      decides-both _ _ (decides-eq (length x) _)
+      (decides-same _ (decides-eq (length b) _) (λ e. e ∙ length-is p 5 _) (λ e. e ∙ sym (length-is p 5 _)))
 
-module _ (p : Profile) (b : List ℕ) (i : ℕ) where
-  place-is : placeIn p b i ≡ placeRead p b i
-  unfolding placeIn
-  place-is =
-      let e : stripFieldStart p i + 3 + 1 ≡ 17 + i * (9 + p .s) + 4 = omega (arith, field-is p i) in
-      ap₂ (λ (u v : ℕ). place (getD b u 0) (getD b v 0)) (ap (λ (m : ℕ). m + 3) (field-is p i)) e
+  write-decided : Decided (writeTests p f x b) (writeSentences p f x b)
+  unfolding writeTests writeSentences
+  write-decided =
+      line refl (decides-not _ (decides-lt (f .0) (p .n)))
+      (λ h. line refl (decides-not _ decides-sizes) (λ l. none))
 
-  scenario-is : recordingIn p b i ≡ scenarioRead p b i
-  unfolding recordingIn
-  scenario-is =
-      let e : stripFieldStart p i + 3 + 2 ≡ 17 + i * (9 + p .s) + 5 = omega (arith, field-is p i) in
-      ap (λ (u : ℕ). slice b u 4) e
+module _ (p : Numbers) (f : ℕ) (r : Recording) (x b : List ℕ) where
+  abbrev wanted : Profile
+  wanted = profileOf p
 
-  pub opening-is : slice b (stripFieldStart p i) 3 ≡ slice b (17 + i * (9 + p .s)) 3
-  opening-is = ap (λ (u : ℕ). slice b u 3) (field-is p i)
+  abbrev node : Node
+  node = record { 0 = f }
 
--- ---- what the tests decide
-module _ (p : Profile) (f : Node) (r : Recording) (b : List ℕ) where
-  abbrev P : ℕ
-  P = length (planned p f)
+  abbrev bundle : List ℕ
+  bundle = bundleOf wanted node r x
 
-  decides-formed : Decides (formed p f b) (Formed p f b)
-  unfolding formed openedAt opening twoBytes
-  decides-formed =
-      decides-same _
-      (decides-both _ _ (decides-eq (length b) (bundleLength p f))
-      (decides-both _ _ (decides-list _ _)
-      (decides-both _ _ (decides-list _ _) (decides-all P _ (λ i. decides-list _ _)))))
-      (λ h. record {
-        total = h .0 ∙ length-is p f;
-        field-01 = h .1 .0;
-        field-02 = h .1 .1 .0;
-        fields-03 = λ i l. sym (opening-is p b i) ∙ h .1 .1 .1 i l;
-      })
-      (λ h. (
-        h .total ∙ sym (length-is p f),
-        (h .field-01, (h .field-02, λ i l. opening-is p b i ∙ h .fields-03 i l)),
-      ))
+  write-call : CallFor p (λ q. writeTests q node x b) (λ q. writeSentences q node x b) ((4, 0) ∷ (5, 0) ∷ []) b
+      (writeOf p f r x b) (Done (length bundle), bundle)
+  unfolding writeOf writeWith writeSentences numberOf indexOf
+  write-call =
+      call-for p b (λ q. writeTests q node x b) (λ q. writeSentences q node x b) (λ q. length (bundleOf q node r x))
+      (λ q. bundleOf q node r x) (λ acc. write-decided _ node x b) refl
 
-  decides-headed : Decides (headed p f r b) (Headed p f r b)
-  unfolding headed profileContent lostContent recordingBytes
-  decides-headed =
-      decides-same _ (decides-both _ _ (decides-list _ _) (decides-list _ _))
-      (λ h. record { field-01 = h .0; field-02 = h .1 }) (λ h. (h .field-01, h .field-02))
+  pub demand-1-write : Demand1Write p f r x b
+  demand-1-write = write-call .exactly
 
-  decides-placed : (i : ℕ) → Decides (placed p f b i) (placeRead p b i ≡ plannedAt p f i)
-  unfolding placed
-  decides-placed i =
-      decides-same _ (decides-place (placeIn p b i) (plannedAt p f i)) (λ e. sym (place-is p b i) ∙ e)
-      (λ e. place-is p b i ∙ e)
+  -- ---- writing that is not refused
+  module _ (e : answerNumber (writeOf p f r x b .0) ≡ 0) where
+    granted : Granted p (writeSentences wanted node x b) (writeOf p f r x b) (Done (length bundle), bundle)
+    granted = write-call .granted e
 
-  decides-fresh : (i : ℕ) → Decides (fresh p r b i) (scenarioRead p b i ≡ recordingBytes r)
-  unfolding fresh
-  decides-fresh i =
-      decides-same _ (decides-list (recordingIn p b i) (recordingBytes r)) (λ e. sym (scenario-is p b i) ∙ e)
-      (λ e. scenario-is p b i ∙ e)
+    accepted : Accepted wanted
+    accepted = granted .accepted
 
-  pub bundle-decided : Decided (bundleTests p f r b) (bundleSentences p f r b)
-  unfolding bundleTests bundleSentences stripSentences recordingBytes
-  bundle-decided =
-      line refl (decides-not _ decides-formed)
-      (λ form.
-      line refl (decides-not _ decides-headed)
-      (λ head.
-      decided-then (decided-listed P _ _ (λ i. refl) (λ i. decides-not _ (decides-placed i)))
-      (λ past. decided-listed P _ _ (λ i. refl) (λ i. decides-not _ (decides-fresh i)))))
+    below : f < p .n
+    unfolding writeSentences
+    below = decided _ (decides-lt f (p .n)) (λ n. granted .refuted {r = OutOfRange} (search by-name))
 
-  -- a line for each strip under 8 and under 9
-  pub bundle-numbered : Numbered (bundleSentences p f r b)
-      ((6, 0) ∷ (7, 0) ∷ (listed (length (planned p f)) (λ i. (8, i)) ++ listed (length (planned p f)) (λ i. (9, i))))
-  unfolding bundleSentences stripSentences numberOf indexOf
-  bundle-numbered =
-      ap (λ (l : List (ℕ × ℕ)). (6, 0) ∷ (7, 0) ∷ l)
-      (map-append (listed P _) (listed P _) numberIn
-      ∙ ap₂ _++_ (map-listed P _ numberIn) (map-listed P _ numberIn))
+    sizes : Sizes wanted node x b
+    unfolding writeSentences
+    sizes = decided _ (decides-sizes wanted node x b) (λ n. granted .refuted {r = BufferLength} (search by-name))
 
-  -- ---- a bundle that passes
-  pub record AsWanted : Type 0 where
-    pub is-formed : Formed p f b
-    pub is-headed : Headed p f r b
-    pub is-placed : (i : ℕ) → i < length (planned p f) → placeIn p b i ≡ plannedAt p f i
-    pub is-fresh : (i : ℕ) → i < length (planned p f) → recordingIn p b i ≡ recordingBytes r
+    whole : Each (Whole r (stripOf wanted x) (p .s)) (planned wanted node)
+    whole = strips-whole wanted accepted x (sizes .0) r node below
 
-  pub wanted-none : AsWanted → NoneHolds (bundleSentences p f r b)
-  unfolding bundleSentences stripSentences recordingBytes
-  wanted-none w =
-      let at-place : (i : ℕ) → i < P → placeRead p b i ≡ plannedAt p f i =
-      λ i l. sym (place-is p b i) ∙ w .is-placed i l in
-      let of-scenario : (i : ℕ) → i < P → scenarioRead p b i ≡ recordingBytes r =
-      λ i l. sym (scenario-is p b i) ∙ w .is-fresh i l in
-      search line-by-line depth 20
+    strips-in : HasStrips wanted (planned wanted node) x (bundleStrip wanted bundle)
+    unfolding bundleOf lostContent recordingBytes fourBytes
+    strips-in i l = sym (written-strip wanted (lostContent node r) r (stripOf wanted x) whole i l)
 
-  module _ (refuted : (q : Refusal) → Holds (bundleSentences p f r b) q → ⊥) where
-    pub refuted-wanted : AsWanted
-    unfolding bundleSentences stripSentences recordingBytes
-    refuted-wanted = record {
-      is-formed = decided _ decides-formed (λ n. refuted BundleForm (search by-name));
-      is-headed = decided _ decides-headed (λ n. refuted BundleHead (search by-name));
-      is-placed = λ i l. place-is p b i ∙ decided _ (decides-placed i) (λ n. refuted (Misplaced i) (search by-name));
-      is-fresh = λ i l. scenario-is p b i ∙ decided _ (decides-fresh i) (λ n. refuted (Stale i) (search by-name));
+    total : length bundle ≡ 17 + length (planned wanted node) * (9 + p .s)
+    total = bundle-length wanted accepted x (sizes .0) r node below ∙ length-is wanted 5 _
+
+    written-bundle : WrittenBundle p f r x b
+    unfolding answerValue
+    written-bundle = record {
+      holds = left;
+      strips = rw left strips-in;
+      size = ap length left ∙ total
+          ∙ ap (λ (m : ℕ). 17 + m * (9 + p .s)) (planned-price wanted accepted node below);
+      value = ap (λ o. answerValue (o .0)) (granted .is-done) ∙ sym (ap length left);
     }
+      where
+        left : writeOf p f r x b .1 ≡ bundle
+        left = ap (λ o. o .1) (granted .is-done)
+
+    -- what is cut is as wanted
+    bundle-wanted : AsWanted wanted (lostContent node r) r (planned wanted node) bundle
+    unfolding bundleOf
+    bundle-wanted = written-wanted wanted (lostContent node r) r (stripOf wanted x) whole
+
+pub demand-3-write : Demand3Write
+demand-3-write p f r x b e = written-bundle p f r x b e
+
+-- ---- a bundle cut from a stored array
+module _ (p : Numbers) (f : ℕ) (x : List ℕ) (r : Recording) (b : List ℕ) (cut : CutFrom p f x r b) where
+  pub cut-is : b ≡ bundleOf (profileOf p) (record { 0 = f }) r x
+  cut-is = sym (cut .leaves) ∙ written-bundle p f r x (cut .lent) (cut .not-refused) .holds
+
+  pub cut-accepted : Accepted (profileOf p)
+  cut-accepted = accepted p f r x (cut .lent) (cut .not-refused)
+
+  pub cut-below : f < p .n
+  cut-below = below p f r x (cut .lent) (cut .not-refused)
+
+  pub cut-strips : HasStrips (profileOf p) (planned (profileOf p) (record { 0 = f })) x (bundleStrip (profileOf p) b)
+  cut-strips = rw cut-is (strips-in p f r x (cut .lent) (cut .not-refused))
+
+  pub cut-wanted : let node : Node = record { 0 = f } in
+      AsWanted (profileOf p) (lostContent node r) r (planned (profileOf p) node) b
+  cut-wanted = rw cut-is (bundle-wanted p f r x (cut .lent) (cut .not-refused))
+
+-- ---- what a bundle turns on
+module _ (p : Profile) (f : Node) (r : Recording) where
+  -- arrays alike at the planned places give one bundle
+  pub bundle-ext : (x y : List ℕ) → AlikeAt p (planned p f) x y → bundleOf p f r x ≡ bundleOf p f r y
+  unfolding bundleOf
+  bundle-ext x y alike =
+      message-ext p (lostContent f r) r (stripOf p x) (stripOf p y) (each-from (place 0 0) (planned p f) alike)
+
+  -- a bundle that is as wanted is the one cut from any array with its strips
+  pub bundle-whole : Accepted p → f .0 < p .n → (b x : List ℕ) → AsWanted p (lostContent f r) r (planned p f) b
+      → length x ≡ p .n * p .a * p .s → HasStrips p (planned p f) x (bundleStrip p b) → b ≡ bundleOf p f r x
+  unfolding bundleOf lostContent recordingBytes fourBytes
+  bundle-whole acc below b x w size has =
+      all-fixed p (lostContent f r) r (stripOf p x) b (strips-whole p acc x size r f below) w has

@@ -3,7 +3,7 @@ use Rattle.demands.specs.Demand1.{Demand1}
 use Rattle.demands.proofs.Encoding.{demand-1-encode}
 use Rattle.demands.proofs.Plan.{demand-1-plan}
 use Rattle.demands.proofs.Rebuild.{demand-1-rebuild}
-use Rattle.demands.proofs.Cut.{demand-1-write}
+use Rattle.demands.proofs.Bundle.{demand-1-write}
 use Rattle.demands.proofs.Reading.{demand-1-read}
 use Rattle.demands.proofs.Survey.{demand-1-survey}
 

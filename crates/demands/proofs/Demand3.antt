@@ -14,7 +14,7 @@ use Rattle.demands.proofs.Rebuild.{
   cut-for-wanted,
   whole-bundle,
 }
-use Rattle.demands.proofs.Cut.{demand-3-write}
+use Rattle.demands.proofs.Bundle.{demand-3-write}
 
 pub demand-3 : Demand3
 demand-3 = record {

@@ -4,9 +4,9 @@ pub mod Profile
 pub mod Encoding
 pub mod Plan
 pub mod Strips
-pub mod Bundle
-pub mod Cut
+pub mod Message
 pub mod Whole
+pub mod Bundle
 pub mod Rebuild
 pub mod Reading
 pub mod Results

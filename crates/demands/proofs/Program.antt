@@ -12,7 +12,8 @@ use Rattle.document.specs.declared.Answer.the-variants.{Done, Refused}
 use Rattle.document.specs.Refusals.{numberOf, answerNumber}
 use Rattle.document.specs.Program.{lineOf, outputOf, programOf}
 use Rattle.demands.specs.Profile.{profileSentences}
-use Rattle.demands.specs.Bundle.{stripSentences, bundleSentences}
+use Rattle.demands.specs.Message.{stripSentences, messageSentences}
+use Rattle.demands.specs.Bundle.{bundleSentences}
 use Rattle.demands.specs.Rebuild.{rebuildSentences}
 use Rattle.demands.specs.Program.{wanted, lent, table, Demand1Program}
 use Rattle.demands.proofs.Tables.{first-holds, Only, held, line-by-line}
@@ -37,7 +38,7 @@ Other m r = elim (eqb (numberOf r) m) [ true ↦ ⊥ | false ↦ Unit ]
 
 -- the lent column has the right length; no other line has the number 5
 others-alone : (input : List ℕ) → Only (Other 5) (table input)
-unfolding rebuildSentences profileSentences bundleSentences stripSentences numberOf
+unfolding rebuildSentences profileSentences bundleSentences messageSentences stripSentences numberOf
 others-alone input =
     let size : length (lent input) ≡ wanted input .a * wanted input .s = length-replicate _ 0 in
     search (line-by-line, tt) depth 20

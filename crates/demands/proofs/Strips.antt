@@ -13,11 +13,12 @@ use Rattle.document.specs.declared.Profile.{Profile}
 use Rattle.document.specs.declared.Node.{Node}
 use Rattle.document.specs.declared.Place.{Place}
 use Rattle.document.specs.Profile.{Accepted}
-use Rattle.document.specs.Places.{place}
+use Rattle.document.specs.Places.{place, placeAt}
 use Rattle.document.specs.Bytes.{Byte, byte, number}
-use Rattle.document.specs.Encoding.{byteAt, columnOf, Stored, encoded}
+use Rattle.document.specs.Encoding.{byteAt, columnOf, Stored, encoded, stripOf}
 use Rattle.document.specs.Plan.{Walk, chosenOver, planOver}
-use Rattle.document.specs.Bundle.{stripFieldLength, stripOf, stripIn}
+use Rattle.document.specs.Message.{stripFieldLength}
+use Rattle.document.specs.Bundle.{bundleStrip}
 use Rattle.document.specs.Rebuild.{positionOf, givenAt, rebuiltOver, firstStrip}
 use Rattle.document.proofs.Bytes.{number-byte}
 use Rattle.document.proofs.Walks.{Sound, complete-sound}
@@ -48,7 +49,7 @@ module _ (p : Profile) (acc : Accepted p) (f : Node) (h : f .0 < p .n) (w : Walk
   P = length plan
 
   abbrev at : ℕ → Place
-  at i = getD plan i (place 0 0)
+  at i = placeAt plan i
 
   -- the nodes of steps 2 and 3
   abbrev s : ℕ → ℕ
@@ -104,10 +105,10 @@ module _ (p : Profile) (acc : Accepted p) (f : Node) (h : f .0 < p .n) (w : Walk
   array-gives y i b r l = strip-byte p y (at i) (stripOf p y (at i)) refl b l
 
   -- the strips of a bundle, where a rebuild reads them
-  pub bundle-gives : (b : List ℕ) → Gives (givenAt plan b firstStrip (stripFieldLength S)) (stripIn p b)
+  pub bundle-gives : (b : List ℕ) → Gives (givenAt plan b (firstStrip p) (stripFieldLength S)) (bundleStrip p b)
   unfolding givenAt
   bundle-gives b i o r l =
-      ap (λ (m : ℕ). byte (getD b (firstStrip + m * stripFieldLength S + o) 0))
+      ap (λ (m : ℕ). byte (getD b (firstStrip p + m * stripFieldLength S + o) 0))
       (position p acc f h w sound i r)
       ∙ ap byte (sym (given-strip p b i o l))
 

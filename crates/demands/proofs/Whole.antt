@@ -1,4 +1,4 @@
--- What a bundle fixes that is as wanted: its head, the profile and the lost node; with its strips, all its bytes.
+-- What a message fixes that is as wanted: its field 01, the profile; with its strips, all its bytes.
 use mathlib.Core.Path.{_≡_, sym, ap, ap₂, _∙_}
 use mathlib.Core.List.{List, _∷_}
 use Prim.Native.Nat.{ℕ, zero, suc, _+_, _*_, _-_, _/_, _%_, _≤_, _<_}
@@ -8,35 +8,43 @@ use native.Mathlib.Omega.{arith}
 use lib.ListN.{length, getD, drop}
 use lib.Seq.{ext-getD}
 use Rattle.lists.specs.Put.{slice}
+use Rattle.lists.specs.Each.{Each}
 use Rattle.lists.proofs.Slice.{slice-at}
 use Rattle.fields.specs.Fields.{twoBytes, opening, openingLength}
 use Rattle.document.specs.declared.Numbers.{Numbers}
 use Rattle.document.specs.declared.Profile.{Profile}
-use Rattle.document.specs.declared.Node.{Node}
+use Rattle.document.specs.declared.Place.{Place}
 use Rattle.document.specs.declared.Recording.{Recording}
-use Rattle.document.specs.Profile.{Accepted, profileOf}
-use Rattle.document.specs.Plan.{planned, plannedAt}
-use Rattle.document.specs.Bundle.{
-  recordingBytes,
+use Rattle.document.specs.Profile.{profileOf}
+use Rattle.document.specs.Places.{placeAt}
+use Rattle.document.specs.Message.{
   recordingLength,
   profileContent,
-  lostContent,
-  headLength,
+  profileContentLength,
+  profileFieldLength,
   stripFieldLength,
-  bundleLength,
-  bundleOf,
-  stripFieldStart,
+  headLength,
+  messageLength,
+  messageOf,
   placeIn,
   recordingIn,
   stripIn,
+  stripFieldStart,
 }
-use Rattle.document.proofs.Bundle.{bundle-length}
-use Rattle.document.proofs.Cut.{cut-first, cut-second, cut-opening, cut-place, cut-recording, cut-strip}
-use Rattle.demands.specs.Strips.{HasStrips}
-use Rattle.demands.specs.Bundle.{Headed}
-use Rattle.demands.proofs.Bundle.{length-is, opening-is, AsWanted}
+use Rattle.document.proofs.Message.{
+  Whole,
+  message-length,
+  written-first,
+  written-second,
+  written-opening,
+  written-place,
+  written-recording,
+  written-strip,
+}
+use Rattle.demands.specs.Message.{Headed}
+use Rattle.demands.proofs.Message.{length-is, opening-is, AsWanted}
 
--- ---- the profile and the lost node
+-- ---- the profile
 two-bytes : (a b : ℕ) → a ≤ 512 → b ≤ 512 → twoBytes a ≡ twoBytes b → a ≡ b
 unfolding twoBytes
 two-bytes a b l m e =
@@ -64,14 +72,11 @@ same-numbers p q l m e =
     made : ℕ → ℕ → ℕ → ℕ → ℕ → Numbers
     made n k a t s = record { n = n; k = k; a = a; t = t; s = s }
 
--- one bundle is not headed for two profiles or nodes
-pub head-fixes : (p q : Numbers) (f g : Node) (r u : Recording) (b : List ℕ) → p .s ≤ 512 → q .s ≤ 512
-    → Headed (profileOf p) f r b → Headed (profileOf q) g u b → (p ≡ q) × (f .0 ≡ g .0)
+-- one message is not headed for two profiles
+pub head-fixes : (p q : Numbers) (c d b : List ℕ) → p .s ≤ 512 → q .s ≤ 512 → Headed (profileOf p) c b
+    → Headed (profileOf q) d b → p ≡ q
 unfolding contentOf
-head-fixes p q f g r u b l m H K = (
-  same-numbers p q l m (sym (H .field-01) ∙ K .field-01),
-  ap (λ (v : List ℕ). getD v 0 0) (sym (H .field-02) ∙ K .field-02),
-)
+head-fixes p q c d b l m H K = same-numbers p q l m (sym (H .field-01) ∙ K .field-01)
 
 -- ---- lists alike at the indices of a range
 module _ (x y : List ℕ) where
@@ -108,86 +113,89 @@ module _ (x y : List ℕ) where
       (alike-parts from width n (λ i l. parts i (omega arith)))
       (λ e low high. parts n (omega arith) e low (omega (arith, suc-mul n width)))
 
--- ---- all its bytes: it is the bundle cut, for the wanted recording, from any array with its strips
-module _ (p : Profile) (acc : Accepted p) (f : Node) (below : f .0 < p .n) (r : Recording) (b x : List ℕ)
-    (w : AsWanted p f r b) (size : length x ≡ p .n * p .a * p .s)
-    (has : HasStrips p (planned p f) x (stripIn p b)) where
-  abbrev cut : List ℕ
-  cut = bundleOf p f r x
+-- ---- all its bytes: it is the message written with its strips
+module _ (p : Profile) (content : List ℕ) (r : Recording) (strips : Place → List ℕ) {qs : List Place} (b : List ℕ)
+    (whole : Each (Whole r strips (p .s)) qs) (w : AsWanted p content r qs b)
+    (has : (i : ℕ) → i < length qs → strips (placeAt qs i) ≡ stripIn (p .s) b (stripFieldStart p (length content) i)) where
+  abbrev written : List ℕ
+  written = messageOf p content r strips qs
 
   abbrev AlikeIn : ℕ → ℕ → Type 0
-  AlikeIn = Alike b cut
+  AlikeIn = Alike b written
 
   -- fields 01 and 02
-  head : AlikeIn 0 headLength
-  unfolding opening twoBytes profileContent lostContent recordingBytes
-  head =
-      alike-join b cut 0 9 17
-      (alike-join b cut 0 3 9
-      (alike-slice b cut 0 3
-      (w .is-formed .field-01 ∙ sym (cut-first p acc r x size f below .0)))
-      (alike-slice b cut 3 6
-      (w .is-headed .field-01 ∙ sym (cut-first p acc r x size f below .1))))
-      (alike-join b cut 9 12 17
-      (alike-slice b cut 9 3
-      (w .is-formed .field-02 ∙ sym (cut-second p acc r x size f below .0)))
-      (alike-slice b cut 12 5
-      (w .is-headed .field-02 ∙ sym (cut-second p acc r x size f below .1))))
+  first : AlikeIn 0 (profileFieldLength p)
+  unfolding opening twoBytes profileContent
+  first =
+      alike-join b written 0 openingLength (profileFieldLength p)
+      (alike-slice b written 0 openingLength (w .is-formed .field-01 ∙ sym (written-first p content r strips whole .0)))
+      (alike-slice b written openingLength (profileContentLength p)
+      (w .is-headed .field-01 ∙ sym (written-first p content r strips whole .1)))
 
-  module _ (i : ℕ) (l : i < length (planned p f)) where
+  second : AlikeIn (profileFieldLength p) (headLength p (length content))
+  unfolding opening
+  second =
+      alike-join b written (profileFieldLength p) (profileFieldLength p + openingLength) _
+      (alike-slice b written (profileFieldLength p) openingLength
+      (w .is-formed .field-02 ∙ sym (written-second p content r strips whole .0)))
+      (λ o low high. alike-slice b written (profileFieldLength p + openingLength) (length content)
+      (w .is-headed .field-02 ∙ sym (written-second p content r strips whole .1)) o low (omega arith))
+
+  module _ (i : ℕ) (l : i < length qs) where
     abbrev at : ℕ
-    at = stripFieldStart p i
+    at = stripFieldStart p (length content) i
 
-    abbrev content : ℕ
-    content = at + openingLength
+    abbrev past : ℕ
+    past = at + openingLength
 
-    opens : AlikeIn at content
+    opens : AlikeIn at past
     unfolding opening twoBytes
     opens =
-        alike-slice b cut at openingLength
-        (opening-is p b i ∙ w .is-formed .fields-03 i l
-        ∙ sym (cut-opening p acc r x size f below i l))
+        alike-slice b written at openingLength
+        (opening-is p (length content) b i ∙ w .is-formed .fields-03 i l
+        ∙ sym (written-opening p content r strips whole i l))
 
-    same-place : placeIn p b i ≡ placeIn p cut i
-    same-place = w .is-placed i l ∙ sym (cut-place p acc r x size f below i l)
+    same-place : placeIn b at ≡ placeIn written at
+    same-place = w .is-placed i l ∙ sym (written-place p content r strips whole i l)
 
-    node : AlikeIn content (content + 1)
+    node : AlikeIn past (past + 1)
     unfolding placeIn
-    node = alike-entry b cut content (ap (λ q. q .node .0) same-place)
+    node = alike-entry b written past (ap (λ q. q .node .0) same-place)
 
-    row : AlikeIn (content + 1) (content + 2)
+    row : AlikeIn (past + 1) (past + 2)
     unfolding placeIn
-    row o low high = alike-entry b cut (content + 1) (ap (λ q. q .row .0) same-place) o low (omega arith)
+    row o low high = alike-entry b written (past + 1) (ap (λ q. q .row .0) same-place) o low (omega arith)
 
-    recording : AlikeIn (content + 2) (content + 2 + recordingLength)
+    recording : AlikeIn (past + 2) (past + 2 + recordingLength)
     unfolding recordingIn
     recording =
-        alike-slice b cut (content + 2) recordingLength
-        (w .is-fresh i l ∙ sym (cut-recording p acc r x size f below i l))
+        alike-slice b written (past + 2) recordingLength
+        (w .is-fresh i l ∙ sym (written-recording p content r strips whole i l))
 
-    strip : AlikeIn (content + 2 + recordingLength) (content + 2 + recordingLength + p .s)
-    unfolding stripIn plannedAt
+    strip : AlikeIn (past + 2 + recordingLength) (past + 2 + recordingLength + p .s)
+    unfolding stripIn
     strip =
-        alike-slice b cut (content + 2 + recordingLength) (p .s)
-        (sym (has i l) ∙ sym (cut-strip p acc r x size f below i l))
+        alike-slice b written (past + 2 + recordingLength) (p .s)
+        (sym (has i l) ∙ sym (written-strip p content r strips whole i l))
 
     -- the field 03 of strip i
-    strip-field : AlikeIn (headLength + i * stripFieldLength (p .s))
-        (headLength + i * stripFieldLength (p .s) + stripFieldLength (p .s))
+    strip-field : AlikeIn (headLength p (length content) + i * stripFieldLength (p .s))
+        (headLength p (length content) + i * stripFieldLength (p .s) + stripFieldLength (p .s))
     unfolding stripFieldStart
     strip-field =
-        alike-join b cut at content _ opens
-        (alike-join b cut content (content + 1) _ node
-        (alike-join b cut (content + 1) (content + 2) _ row
-        (alike-join b cut (content + 2) (content + 2 + recordingLength) _ recording
+        alike-join b written at past _ opens
+        (alike-join b written past (past + 1) _ node
+        (alike-join b written (past + 1) (past + 2) _ row
+        (alike-join b written (past + 2) (past + 2 + recordingLength) _ recording
         (λ o low high. strip o low (omega arith)))))
 
-  pub whole : b ≡ bundleOf p f r x
-  whole =
-      ext-getD 0 b cut (total ∙ sym (bundle-length p r x acc size f below))
-      (λ o m. alike-join b cut 0 headLength (bundleLength p f) head
-      (alike-parts b cut headLength (stripFieldLength (p .s)) (length (planned p f)) strip-field)
-      o (omega arith) (omega (arith, total)))
+  pub all-fixed : b ≡ messageOf p content r strips qs
+  all-fixed =
+      let h : ℕ = headLength p (length content) in
+      ext-getD 0 b written (total ∙ sym (message-length p content r strips whole))
+      (λ o m. alike-join b written 0 h (messageLength p (length content) (length qs))
+      (alike-join b written 0 (profileFieldLength p) h first second)
+      (alike-parts b written h (stripFieldLength (p .s)) (length qs) strip-field) o (omega arith) (omega (arith, total)))
     where
-      total : length b ≡ bundleLength p f
-      total = w .is-formed .total ∙ sym (length-is p f)
+      total : length b ≡ messageLength p (length content) (length qs)
+      total = w .is-formed .total ∙ sym (length-is p (length content) (length qs))

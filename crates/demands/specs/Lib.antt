@@ -3,6 +3,7 @@ pub mod Profile
 pub mod Encoding
 pub mod Plan
 pub mod Strips
+pub mod Message
 pub mod Bundle
 pub mod Rebuild
 pub mod Reading

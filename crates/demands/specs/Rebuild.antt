@@ -19,7 +19,7 @@
 -- WholeBundle                : what is not refused is what is cut from any array with its strips    whole-bundle
 -- Shown in proofs/Rebuild.antt, under the name beside each.
 --
--- planned p f are the planned places, stripIn p b i is the strip i of the bundle b: document/specs/Plan.antt and
+-- planned p f are the planned places, bundleStrip p b i is the strip i of the bundle b: document/specs/Plan.antt and
 -- Bundle.antt.
 use mathlib.Core.Path.{_≡_}
 use mathlib.Core.Logic.{_≢_}
@@ -36,7 +36,7 @@ use Rattle.document.specs.declared.Refusal.the-variants.{OutOfRange, BufferLeng
 use Rattle.document.specs.Refusals.{answerNumber, answerValue}
 use Rattle.document.specs.Profile.{profileOf}
 use Rattle.document.specs.Plan.{planned}
-use Rattle.document.specs.Bundle.{bundleOf, stripIn}
+use Rattle.document.specs.Bundle.{bundleOf, bundleStrip}
 use Rattle.document.specs.Rebuild.{rebuildTests, rebuildOf}
 use Rattle.demands.specs.Tables.{Sentence}
 use Rattle.demands.specs.Profile.{Demand1For}
@@ -74,9 +74,9 @@ module _ (p : Numbers) (f : ℕ) where
     -- 'On success the answer is 0, with .. 0 otherwise.'
     pub value : answerValue (rebuildOf p f r b y .0) ≡ 0
     -- 'some encoded array has them'
-    pub some : (x : List ℕ) × EncodedArray wanted x × HasStrips wanted plan x (stripIn wanted b)
+    pub some : (x : List ℕ) × EncodedArray wanted x × HasStrips wanted plan x (bundleStrip wanted b)
     -- 'and the rebuilt column is the one every such array has on that drive'
-    pub column : (x : List ℕ) → EncodedArray wanted x → HasStrips wanted plan x (stripIn wanted b)
+    pub column : (x : List ℕ) → EncodedArray wanted x → HasStrips wanted plan x (bundleStrip wanted b)
         → rebuildOf p f r b y .1 ≡ columnIn wanted x f
 
   abbrev pub Demand3Rebuild : Type 0
@@ -87,7 +87,7 @@ module _ (p : Numbers) (f : ℕ) where
   abbrev pub SameStrips : Type 0
   SameStrips =
       (r u : Recording) (b c y z : List ℕ) → NotRefused p f r b y → NotRefused p f u c z
-      → ((i : ℕ) → i < length plan → stripIn wanted b i ≡ stripIn wanted c i)
+      → ((i : ℕ) → i < length plan → bundleStrip wanted b i ≡ bundleStrip wanted c i)
       → rebuildOf p f r b y .1 ≡ rebuildOf p f u c z .1
 
   -- 'Take any two stored arrays alike at the planned places, whatever they hold elsewhere: rebuilds from bundles cut
@@ -140,4 +140,4 @@ module _ (p : Numbers) (f : ℕ) where
   abbrev pub WholeBundle : Type 0
   WholeBundle =
       (r : Recording) (b y x : List ℕ) → NotRefused p f r b y → length x ≡ p .n * p .a * p .s
-      → HasStrips wanted plan x (stripIn wanted b) → b ≡ bundleOf wanted (record { 0 = f }) r x
+      → HasStrips wanted plan x (bundleStrip wanted b) → b ≡ bundleOf wanted (record { 0 = f }) r x

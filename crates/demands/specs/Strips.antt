@@ -23,9 +23,9 @@ use Rattle.document.specs.declared.Profile.{Profile}
 use Rattle.document.specs.declared.Node.{Node}
 use Rattle.document.specs.declared.Place.{Place}
 use Rattle.document.specs.Profile.{Accepted}
-use Rattle.document.specs.Places.{place}
+use Rattle.document.specs.Places.{placeAt}
+use Rattle.document.specs.Encoding.{stripOf}
 use Rattle.document.specs.Plan.{Walk, Complete, planOver}
-use Rattle.document.specs.Bundle.{stripOf}
 use Rattle.demands.specs.Encoding.{DocumentArray}
 
 abbrev pub Bytes : List ℕ → Type 0
@@ -37,16 +37,13 @@ pub record EncodedArray (p : Profile) (x : List ℕ) : Type 0 where
   pub gives : DocumentArray p given x
 
 module _ (p : Profile) (qs : List Place) where
-  abbrev at : ℕ → Place
-  at i = getD qs i (place 0 0)
-
   -- 'an array has the strips given for them if each stands at its own place'
   abbrev pub HasStrips : List ℕ → (ℕ → List ℕ) → Type 0
-  HasStrips x strips = (i : ℕ) → i < length qs → stripOf p x (at i) ≡ strips i
+  HasStrips x strips = (i : ℕ) → i < length qs → stripOf p x (placeAt qs i) ≡ strips i
 
   -- 'any two stored arrays alike at the planned places'
   abbrev pub AlikeAt : List ℕ → List ℕ → Type 0
-  AlikeAt x y = (i : ℕ) → i < length qs → stripOf p x (at i) ≡ stripOf p y (at i)
+  AlikeAt x y = (i : ℕ) → i < length qs → stripOf p x (placeAt qs i) ≡ stripOf p y (placeAt qs i)
 
 -- 'a node's column is its A strips, row 0 first'; 'strip (row i, node j) starts at (jA+i)S'.
 abbrev pub columnIn : Profile → List ℕ → ℕ → List ℕ

@@ -106,12 +106,18 @@ module _ (r : Recording) (strips : Place → List ℕ) where
         ∙ fields-at ws i o m (omega arith) l
 
 -- strips alike for each of the places
-pub fields-ext : (r : Recording) (u v : Place → List ℕ) {qs : List Place} → Each (λ q. u q ≡ v q) qs
+fields-ext : (r : Recording) (u v : Place → List ℕ) {qs : List Place} → Each (λ q. u q ≡ v q) qs
     → stripFields r u qs ≡ stripFields r v qs
 unfolding stripFields
 fields-ext r u v none = refl
 fields-ext r u v (also {x = q} e es) =
     ap₂ (λ (s l : List ℕ). fieldOf 3 (stripContent q r s) ++ l) e (fields-ext r u v es)
+
+pub message-ext : (p : Profile) (content : List ℕ) (r : Recording) (u v : Place → List ℕ) {qs : List Place}
+    → Each (λ q. u q ≡ v q) qs → messageOf p content r u qs ≡ messageOf p content r v qs
+unfolding messageOf
+message-ext p content r u v alike =
+    ap (λ (l : List ℕ). fieldOf 1 (profileContent p) ++ (fieldOf 2 content ++ l)) (fields-ext r u v alike)
 
 -- ---- a whole message
 module _ (p : Profile) (content : List ℕ) (r : Recording) (strips : Place → List ℕ) {qs : List Place}
