@@ -6,11 +6,12 @@ use Prim.Native.Nat.{ℕ, zero, suc, _*_, _/_, _%_, _≤_, _<_}
 use native.Mathlib.Decide.{ℕ-discrete, decLt}
 use native.Mathlib.Omega.{arith}
 use lib.Dec.{eqb, ltb}
-use lib.ListN.{length, getD, set, replicate, length-replicate, length-set, getD-replicate, List·getD-eq-default}
+use lib.ListN.{length, getD, set, take, replicate, length-replicate, length-set, getD-replicate, List·getD-eq-default}
 use lib.Seq.{ext-getD}
 use borrow.Author.Tests.{lt-ltb, le-ltb, ltb-false, eq-eqb, ne-eqb}
 use Rattle.lists.specs.Listed.{listed}
 use Rattle.lists.proofs.Listed.{listed-length, listed-at}
+use Rattle.lists.proofs.Put.{wrote-front}
 use Rattle.lists.proofs.Rising.{rising-length}
 use Rattle.ksets.specs.Sets.{Rising}
 use Rattle.gf256.specs.Field.{_⊕_}
@@ -21,8 +22,8 @@ use Rattle.algebra.proofs.Elimination.{kernel-ext, inverse-ext}
 use Rattle.algebra.proofs.Pick.{pick-yes, pick-no}
 use Rattle.square.specs.declared.Line.{Line}
 use Rattle.square.specs.declared.Verdict.the-variants.{Regular, Singular}
-use Rattle.square.specs.Steps.{noLine, lineAt, entry, filled}
-use Rattle.square.specs.Elimination.{Ended, whole, stuck, verdictAndLines, singular}
+use Rattle.square.specs.Steps.{noLine, lineAt, entry, filled, unitSquare}
+use Rattle.square.specs.Elimination.{Ended, whole, stuck, eliminated, verdictAndLines, singular}
 use Rattle.square.proofs.Steps.{filled-at, filled-rest, filled-length, set-at}
 use Rattle.document.specs.declared.Profile.{Profile}
 use Rattle.document.specs.declared.Place.{Place}
@@ -35,6 +36,7 @@ use Rattle.document.proofs.Bytes.{number-lt, byte-number, number-zero, number-o
 use Rattle.document.proofs.SquareSteps.{matrix, Shaped, unit-square}
 use Rattle.document.proofs.Squares.{singular-kernel, regular}
 use Rattle.coefficients.specs.Weights.{positionIn}
+use Rattle.half_pairs.specs.declared.SmallSystem.{SmallSystem}
 use Rattle.half_pairs.specs.HalfPairs.{
   named,
   isNamed,
@@ -47,6 +49,7 @@ use Rattle.half_pairs.specs.HalfPairs.{
   systemLine,
   systemSquare,
   systemEnd,
+  SystemOf,
 }
 use Rattle.half_pairs.proofs.Symbols.{inverse-clear, kernel-ambiguous}
 
@@ -251,3 +254,14 @@ module _ (p : Profile) (nodes : List ℕ) where
 
     pub regular-clear : verdictAndLines (systemEnd p nodes) .verdict ≡ Regular → ambiguous p nodes ≡ false
     regular-clear e = inverse-clear p nodes acc rises (regular-inverse e)
+
+    -- ---- what the code makes of it
+    module _ {z : SmallSystem} (made : SystemOf p nodes z) where
+      pub system-few : z .count ≤ 80
+      system-few = omega (arith, few-halves, made .count)
+
+      pub system-halves : take (z .count) (z .halves) ≡ halfPairs p nodes
+      system-halves = wrote-front {n = z .count} (record { ends = omega (arith, made .count); holds = made .halves }) .1
+
+      pub system-end : eliminated (z .count) (z .count) (z .lines) (unitSquare 80) ≡ systemEnd p nodes
+      system-end = rw (made .count, made .lines)

@@ -14,15 +14,25 @@ ghost use Rattle.document.specs.Reading.{joinedPlace};
 ghost use Rattle.coefficients.specs.Weights.{denominatorsOf};
 ghost use Rattle.half_pairs.specs.HalfPairs.{positionTable, isNamed, isHalfPair, partnerAt, halfPairs};
 ghost use Rattle.half_pairs.specs.HalfPairs.{weightRow, nodeWeights, weightTable};
-ghost use Rattle.half_pairs.specs.HalfPairs.{coefficientIn, systemLine, systemSquare};
+ghost use Rattle.half_pairs.specs.HalfPairs.{coefficientIn, systemLine, systemSquare, SystemOf};
 use document::Node;
 use document::Place;
 use document::Profile;
 use document::Row;
 use square::Line;
 
+// The system of a reading, with what it is made of and a reader needs beside it: where each node stands in the list, the
+// numbers of the half pairs, how many there are, and the weights at all nodes.
+pub struct SmallSystem {
+    pub positions: [u8; 24],
+    pub halves: [u8; 80],
+    pub count: usize,
+    pub table: [u8; 576],
+    pub lines: [Line; 80],
+}
+
 // Where each node that a profile can have stands in the list; its length if it does not.
-pub fn positions(nodes: &[u8]) -> [u8; 24]
+fn positions(nodes: &[u8]) -> [u8; 24]
     requires { ⌜ length (now nodes) ≤ 24 ⌝ }
     ensures { λ r. ⌜ r ≡ positionTable (now (nodes .entry)) ⌝ }
 {
@@ -70,7 +80,7 @@ fn is_half_pair(p: Profile, nodes: &[u8], positions: &[u8], z: usize) -> bool
 }
 
 // Writes the numbers of the half pairs, and returns how many there are. `out` has room for all strips, at most 80.
-pub fn list_half_pairs(out: &mut [u8], p: Profile, nodes: &[u8], positions: &[u8]) -> usize
+fn list_half_pairs(out: &mut [u8], p: Profile, nodes: &[u8], positions: &[u8]) -> usize
     requires { ⌜ Accepted p × Rising (p .n) (p .k) (now nodes) × (length (now out) ≡ 80) ⌝ }
     requires { ⌜ now positions ≡ positionTable (now nodes) ⌝ }
     ensures { λ r. ⌜ Wrote (now (out .entry)) 0 (halfPairs p (now (nodes .entry))) r (now (out .exit)) ⌝ }
@@ -133,7 +143,7 @@ fn put_weights(out: &mut [u8], p: Profile, nodes: &[u8], positions: &[u8])
 }
 
 // The same, in a table that a call makes once.
-pub fn weight_table(p: Profile, nodes: &[u8], positions: &[u8]) -> [u8; 576]
+fn weight_table(p: Profile, nodes: &[u8], positions: &[u8]) -> [u8; 576]
     requires { ⌜ Accepted p × Rising (p .n) (p .k) (now nodes) × (now positions ≡ positionTable (now nodes)) ⌝ }
     ensures { λ r. ⌜ r ≡ weightTable p (now (nodes .entry)) ⌝ }
 {
@@ -181,7 +191,7 @@ fn system_line(p: Profile, nodes: &[u8], table: &[u8], halves: &[u8], e: usize) 
 }
 
 // The system: a line for each half pair. Lines past them hold zeros.
-pub fn system_square(p: Profile, nodes: &[u8], table: &[u8], halves: &[u8]) -> [Line; 80]
+fn system_square(p: Profile, nodes: &[u8], table: &[u8], halves: &[u8]) -> [Line; 80]
     requires { ⌜ Accepted p × Rising (p .n) (p .k) (now nodes) × (now table ≡ weightTable p (now nodes)) ⌝ }
     requires { ⌜ now halves ≡ halfPairs p (now nodes) ⌝ }
     ensures { λ r. ⌜ r ≡ systemSquare p (now (nodes .entry)) ⌝ }
@@ -194,4 +204,23 @@ pub fn system_square(p: Profile, nodes: &[u8], table: &[u8], halves: &[u8]) -> [
         e += 1;
     }
     s
+}
+
+// The system of the named nodes, for an elimination of `count` lines.
+pub fn small_system(p: Profile, nodes: &[u8]) -> SmallSystem
+    requires { ⌜ Accepted p × Rising (p .n) (p .k) (now nodes) ⌝ }
+    ensures { λ r. ⌜ SystemOf p (now (nodes .entry)) r ⌝ }
+{
+    let positions = positions(nodes);
+    let mut halves = [0u8; 80];
+    let count = list_half_pairs(&mut halves, p, nodes, &positions);
+    let table = weight_table(p, nodes, &positions);
+    let lines = system_square(p, nodes, &table, &halves[..count]);
+    SmallSystem {
+        positions: positions,
+        halves: halves,
+        count: count,
+        table: table,
+        lines: lines,
+    }
 }
