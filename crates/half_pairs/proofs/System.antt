@@ -6,7 +6,7 @@ use Prim.Native.Nat.{ℕ, zero, suc, _*_, _/_, _%_, _≤_, _<_}
 use native.Mathlib.Decide.{ℕ-discrete, decLt}
 use native.Mathlib.Omega.{arith}
 use lib.Dec.{eqb, ltb}
-use lib.ListN.{length, getD, set, take, replicate, length-replicate, length-set, getD-replicate, List·getD-eq-default}
+use lib.ListN.{length, getD, set, take, replicate, length-replicate, length-take, length-set, getD-replicate, List·getD-eq-default}
 use lib.Seq.{ext-getD}
 use borrow.Author.Tests.{lt-ltb, le-ltb, ltb-false, eq-eqb, ne-eqb}
 use Rattle.lists.specs.Listed.{listed}
@@ -254,6 +254,9 @@ module _ (p : Profile) (nodes : List ℕ) where
 
       pub system-halves : take (z .count) (z .halves) ≡ halfPairs p nodes
       system-halves = wrote-front {n = z .count} (record { ends = omega (arith, made .count); holds = made .halves }) .1
+
+      pub system-fits : z .count ≤ length (z .halves)
+      system-fits = omega (arith, made .count, ap length system-halves, length-take (z .count) (z .halves))
 
       pub system-end : eliminated (z .count) (z .count) (z .lines) (unitSquare 80) ≡ systemEnd p nodes
       system-end = rw (made .count, made .lines)
