@@ -36,7 +36,7 @@ use Rattle.document.proofs.Bytes.{number-lt, byte-number, number-zero, number-o
 use Rattle.document.proofs.SquareSteps.{matrix, Shaped, unit-square}
 use Rattle.document.proofs.Squares.{singular-kernel, regular}
 use Rattle.coefficients.specs.Weights.{positionIn}
-use Rattle.half_pairs.specs.declared.SmallSystem.{SmallSystem}
+use Rattle.half_pairs.specs.declared.HalfPairs.{HalfPairs}
 use Rattle.half_pairs.specs.HalfPairs.{
   named,
   isNamed,
@@ -49,7 +49,7 @@ use Rattle.half_pairs.specs.HalfPairs.{
   systemLine,
   systemSquare,
   systemEnd,
-  SystemOf,
+  HalfPairsOf,
 }
 use Rattle.half_pairs.proofs.Symbols.{U, inverse-clear, kernel-ambiguous}
 
@@ -247,16 +247,17 @@ module _ (p : Profile) (nodes : List ℕ) where
     pub regular-clear : verdictAndLines (systemEnd p nodes) .verdict ≡ Regular → ambiguous p nodes ≡ false
     regular-clear e = inverse-clear p nodes acc rises (regular-inverse e)
 
-    -- ---- what the code makes of it
-    module _ {z : SmallSystem} (made : SystemOf p nodes z) where
-      pub system-few : z .count ≤ 80
-      system-few = omega (arith, few-halves, made .count)
+-- ---- as the code has it
+module _ {p : Profile} {nodes : List ℕ} {h : HalfPairs} (made : HalfPairsOf p nodes h) where
+  pub count-few : Accepted p → Rising (p .n) (p .k) nodes → h .count ≤ 80
+  count-few acc rises = omega (arith, few-halves p nodes acc rises, made .count)
 
-      pub system-halves : take (z .count) (z .halves) ≡ halfPairs p nodes
-      system-halves = wrote-front {n = z .count} (record { ends = omega (arith, made .count); holds = made .halves }) .1
+  pub halves-front : take (h .count) (h .halves) ≡ halfPairs p nodes
+  halves-front = wrote-front {n = h .count} (record { ends = omega (arith, made .count); holds = made .halves }) .1
 
-      pub system-fits : z .count ≤ length (z .halves)
-      system-fits = omega (arith, made .count, ap length system-halves, length-take (z .count) (z .halves))
+  pub halves-fit : h .count ≤ length (h .halves)
+  halves-fit = omega (arith, made .count, ap length halves-front, length-take (h .count) (h .halves))
 
-      pub system-end : eliminated (z .count) (z .count) (z .lines) (unitSquare 80) ≡ systemEnd p nodes
-      system-end = rw (made .count, made .lines)
+  pub system-end : {lines : List Line} → lines ≡ systemSquare p nodes
+      → eliminated (h .count) (h .count) lines (unitSquare 80) ≡ systemEnd p nodes
+  system-end e = rw (made .count, e)

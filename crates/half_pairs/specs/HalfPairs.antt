@@ -20,7 +20,7 @@
 -- systemLine p nodes e       : its line e, in 80 bytes: zeros past its entries
 -- systemSquare p nodes       : the system in an array of 80 lines: zeros past its lines
 -- systemEnd p nodes          : how its elimination ends
--- SystemOf p nodes z         : z has the system of the named nodes and what it is made of
+-- HalfPairsOf p nodes h      : h holds what the system of the named nodes is made of: zeros past the half pairs
 -- joinedAt p nodes x b i j   : byte b of the strip that the joined columns x have for row i of the named node j
 use mathlib.Core.Path.{_≡_}
 use mathlib.Core.Bool.{Bool, not, cond}
@@ -45,7 +45,7 @@ use Rattle.document.specs.Bytes.{bytes, Byte, byte, number}
 use Rattle.document.specs.Encoding.{factorAt}
 use Rattle.document.specs.Reading.{joinedPlace}
 use Rattle.coefficients.specs.Weights.{positionIn, weightsOf}
-use Rattle.half_pairs.specs.declared.SmallSystem.{SmallSystem}
+use Rattle.half_pairs.specs.declared.HalfPairs.{HalfPairs}
 
 infixl 70 _⊗_
 open Field bytes using (𝟘, mul as _⊗_)
@@ -104,12 +104,11 @@ module _ (p : Profile) (nodes : List ℕ) where
   abbrev pub systemEnd : Ended
   systemEnd = eliminated (length halfPairs) (length halfPairs) systemSquare (unitSquare 80)
 
-  pub record SystemOf (z : SmallSystem) : Type 0 where
-    pub positions : z .positions ≡ positionTable nodes
-    pub halves : z .halves ≡ put (replicate 80 0) 0 halfPairs
-    pub count : z .count ≡ length halfPairs
-    pub table : z .table ≡ weightTable
-    pub lines : z .lines ≡ systemSquare
+  pub record HalfPairsOf (h : HalfPairs) : Type 0 where
+    pub positions : h .positions ≡ positionTable nodes
+    pub halves : h .halves ≡ put (replicate 80 0) 0 halfPairs
+    pub count : h .count ≡ length halfPairs
+    pub table : h .table ≡ weightTable
 
   abbrev pub joinedAt : List ℕ → ℕ → Array bytes
   joinedAt x b i j = byte (getD x ((positionIn nodes j * A + i) * S + b) 0)

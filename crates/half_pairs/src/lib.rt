@@ -14,34 +14,35 @@ ghost use Rattle.document.specs.Reading.{joinedPlace};
 ghost use Rattle.coefficients.specs.Weights.{denominatorsOf};
 ghost use Rattle.half_pairs.specs.HalfPairs.{positionTable, isNamed, isHalfPair, partnerAt, halfPairs};
 ghost use Rattle.half_pairs.specs.HalfPairs.{weightRow, nodeWeights, weightTable};
-ghost use Rattle.half_pairs.specs.HalfPairs.{coefficientIn, systemLine, systemSquare, SystemOf};
+ghost use Rattle.half_pairs.specs.HalfPairs.{coefficientIn, systemLine, systemSquare, HalfPairsOf};
 use document::Node;
 use document::Place;
 use document::Profile;
 use document::Row;
 use square::Line;
 
-// The system of a reading, with what it is made of and a reader needs beside it: where each node stands in the list, the
-// numbers of the half pairs, how many there are, and the weights at all nodes.
-pub struct SmallSystem {
+// What a reading needs of its nodes beside the system: where each node stands in the list, the numbers of the half pairs and
+// how many there are, and the weights at all nodes.
+pub struct HalfPairs {
     pub positions: [u8; 24],
     pub halves: [u8; 80],
     pub count: usize,
     pub table: [u8; 576],
-    pub lines: [Line; 80],
 }
 
 // Where each node that a profile can have stands in the list; its length if it does not.
-fn positions(nodes: &[u8]) -> [u8; 24]
-    requires { ⌜ length (now nodes) ≤ 24 ⌝ }
+fn positions(p: Profile, nodes: &[u8]) -> [u8; 24]
+    requires { ⌜ Accepted p × Rising (p .n) (p .k) (now nodes) ⌝ }
     ensures { λ r. ⌜ r ≡ positionTable (now (nodes .entry)) ⌝ }
 {
-    let mut table = [0u8; 24];
-    let mut j: usize = 0;
-    while j < 24 {
-        let q = coefficients::position_of(nodes, j);
+    let k = p.k;
+    let absent = k as u8;
+    let mut table = [absent; 24];
+    let mut q: usize = 0;
+    while q < k {
+        let j = nodes[q] as usize;
         table[j] = q as u8;
-        j += 1;
+        q += 1;
     }
     table
 }
@@ -206,21 +207,30 @@ fn system_square(p: Profile, nodes: &[u8], table: &[u8], halves: &[u8]) -> [Line
     s
 }
 
-// The system of the named nodes, for an elimination of `count` lines.
-pub fn small_system(p: Profile, nodes: &[u8]) -> SmallSystem
+// What the system of the named nodes is made of, once for a call.
+pub fn of_nodes(p: Profile, nodes: &[u8]) -> HalfPairs
     requires { ⌜ Accepted p × Rising (p .n) (p .k) (now nodes) ⌝ }
-    ensures { λ r. ⌜ SystemOf p (now (nodes .entry)) r ⌝ }
+    ensures { λ r. ⌜ HalfPairsOf p (now (nodes .entry)) r ⌝ }
 {
-    let positions = positions(nodes);
+    let positions = positions(p, nodes);
+    let table = weight_table(p, nodes, &positions);
     let mut halves = [0u8; 80];
     let count = list_half_pairs(&mut halves, p, nodes, &positions);
-    let table = weight_table(p, nodes, &positions);
-    let lines = system_square(p, nodes, &table, &halves[..count]);
-    SmallSystem {
+    HalfPairs {
         positions: positions,
         halves: halves,
         count: count,
         table: table,
-        lines: lines,
     }
+}
+
+// The system, made of it.
+pub fn small_system(p: Profile, nodes: &[u8], h: HalfPairs) -> [Line; 80]
+    requires { ⌜ Accepted p × Rising (p .n) (p .k) (now nodes) × HalfPairsOf p (now nodes) h ⌝ }
+    ensures { λ r. ⌜ r ≡ systemSquare p (now (nodes .entry)) ⌝ }
+{
+    let count = h.count;
+    let table = h.table;
+    let halves = h.halves;
+    system_square(p, nodes, &table, &halves[..count])
 }

@@ -307,17 +307,17 @@ fn read_from(p: Profile, nodes: &[u8], columns: &[u8], output: &mut [u8]) -> Ans
     ensures { λ r. ⌜ (r, now (output .exit))
         ≡ readingAnswer p (now (nodes .entry)) (now (columns .entry)) (now (output .entry)) ⌝ }
 {
-    let system = half_pairs::small_system(p, nodes);
-    let count = system.count;
-    let s = system.lines;
+    let h = half_pairs::of_nodes(p, nodes);
+    let s = half_pairs::small_system(p, nodes, h);
+    let count = h.count;
     let e = square::invert(s, count, count);
     let verdict = e.verdict;
     match verdict {
         Verdict::Singular(_) => Answer::Refused(Refusal::Ambiguous),
         Verdict::Regular => {
-            let positions = system.positions;
-            let table = system.table;
-            let halves = system.halves;
+            let positions = h.positions;
+            let table = h.table;
+            let halves = h.halves;
             let lines = e.lines;
             put_data(
                 output,

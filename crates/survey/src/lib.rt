@@ -19,9 +19,9 @@ fn fails(p: Profile, set: &[u8]) -> bool
     requires { ⌜ Accepted p × Rising (p .n) (p .k) (now set) ⌝ }
     ensures { λ r. ⌜ r ≡ ambiguous p (now (set .entry)) ⌝ }
 {
-    let system = half_pairs::small_system(p, set);
-    let count = system.count;
-    let lines = system.lines;
+    let h = half_pairs::of_nodes(p, set);
+    let lines = half_pairs::small_system(p, set, h);
+    let count = h.count;
     let verdict = square::judge(lines, count, count);
     match verdict {
         Verdict::Singular(_) => true,

@@ -10,28 +10,31 @@ use Rattle.square.specs.Elimination.{verdictAndLines}
 use Rattle.document.specs.declared.Answer.the-variants.{Done}
 use Rattle.half_pairs.specs.HalfPairs.{systemEnd}
 use Rattle.half_pairs.proofs.System.{stuck-ambiguous, regular-inverse, regular-clear}
-use Rattle.half_pairs.proofs.System.{system-few, system-fits, system-halves, system-end}
+use Rattle.half_pairs.proofs.System.{count-few, halves-front, halves-fit, system-end}
 use Rattle.reading.specs.Steps.{dataBy, readingAnswer}
 use Rattle.reading.proofs.Data.{data-by}
 use Rattle.reading.proofs.read_from.Statement.{statement}
 use Rattle.reading.proofs.read_from.Tie as tie
 
+of-nodes-requires : tie.Need-of-nodes-requires
+of-nodes-requires c κs = search needs
+
 small-system-requires : tie.Need-small-system-requires
 small-system-requires c κs = search needs
 
-abbrev start : tie.After-small-system → tie.Start
+abbrev start : tie.After-of-nodes → tie.Start
 start c = c .before .before .before .before
 
 invert-requires : tie.Need-invert-requires
 invert-requires c κs =
-    let m = c .before in
-    let s = start m in
-    let few = system-few (s .args .p) (s .args .nodes .now) (s .pre .0 .0) (s .pre .0 .1) (m .small-system .ensures) in
+    let h = c .before in
+    let s = start h in
+    let few = count-few (h .of-nodes .ensures) (s .pre .0 .0) (s .pre .0 .1) in
     (few, few)
 
 -- past the elimination: how that of the small system ends
 module _ (c : tie.After-invert) where
-  abbrev made : tie.After-small-system
+  abbrev made : tie.After-of-nodes
   made = c .before .before
 
   abbrev s : tie.Start
@@ -39,9 +42,7 @@ module _ (c : tie.After-invert) where
 
   inverted : c .invert .result ≡ verdictAndLines (systemEnd (s .args .p) (s .args .nodes .now))
   inverted =
-      c .invert .ensures
-      ∙ ap verdictAndLines
-      (system-end (s .args .p) (s .args .nodes .now) (s .pre .0 .0) (s .pre .0 .1) (made .small-system .ensures))
+      c .invert .ensures ∙ ap verdictAndLines (system-end (made .of-nodes .ensures) (c .before .small-system .ensures))
 
 enum-told : tie.Need-enum-told
 enum-told c = search needs
@@ -57,9 +58,7 @@ slice-aggregate-put-data-2 c = search needs
 
 array-share-prefix-halves : tie.Need-array-share-prefix-halves
 array-share-prefix-halves c =
-    let m = made (c .before .before .before .before .before .before .before .before .before) in
-    let s = start m in
-    system-fits (s .args .p) (s .args .nodes .now) (s .pre .0 .0) (s .pre .0 .1) (m .small-system .ensures)
+    halves-fit (made (c .before .before .before .before .before .before .before .before .before) .of-nodes .ensures)
 
 slice-aggregate-put-data-3 : tie.Need-slice-aggregate-put-data-3
 slice-aggregate-put-data-3 c = sym (length-take-le _ _ (array-share-prefix-halves (c .before)))
@@ -68,10 +67,8 @@ put-data-requires : tie.Need-put-data-requires
 put-data-requires c κs =
     let m = made (c .before .before .before .before .before .before .before .before .before .before) in
     let s = start m in
-    let h = m .small-system .ensures in (
-      (s .pre .0 .0, s .pre .0 .1, h .positions),
-      ((h .table, system-halves (s .args .p) (s .args .nodes .now) (s .pre .0 .0) (s .pre .0 .1) h), s .pre .1),
-    )
+    let h = m .of-nodes .ensures in
+    ((s .pre .0 .0, s .pre .0 .1, h .positions), ((h .table, halves-front h), (s .pre .1 .0, s .pre .1 .1)))
 
 returns : tie.Need-returns
 unfolding readingAnswer
@@ -106,6 +103,7 @@ pub read-from-spec : {M : Type 1} → statement M
 read-from-spec =
     tie.close
     (tie.spec
+    of-nodes-requires
     small-system-requires
     invert-requires
     enum-told

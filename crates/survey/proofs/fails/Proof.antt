@@ -3,18 +3,21 @@ use mathlib.Core.Path.{_≡_, sym, ap, _∙_}
 use borrow.Author.Needs.{needs}
 use Rattle.square.specs.Elimination.{Ended, verdictAndLines}
 use Rattle.half_pairs.specs.HalfPairs.{systemEnd}
-use Rattle.half_pairs.proofs.System.{stuck-ambiguous, regular-clear, system-few, system-end}
+use Rattle.half_pairs.proofs.System.{stuck-ambiguous, regular-clear, count-few, system-end}
 use Rattle.survey.proofs.fails.Statement.{statement}
 use Rattle.survey.proofs.fails.Tie as tie
+
+of-nodes-requires : tie.Need-of-nodes-requires
+of-nodes-requires c κs = search needs
 
 small-system-requires : tie.Need-small-system-requires
 small-system-requires c κs = search needs
 
 judge-requires : tie.Need-judge-requires
 judge-requires c κs =
-    let m = c .before in
-    let s = m .before .before in
-    let few = system-few (s .args .p) (s .args .set .now) (s .pre .0) (s .pre .1) (m .small-system .ensures) in
+    let h = c .before in
+    let s = h .before .before in
+    let few = count-few (h .of-nodes .ensures) (s .pre .0) (s .pre .1) in
     (few, few)
 
 -- past the elimination: the verdict is that on the system of the set
@@ -26,7 +29,7 @@ module _ (c : tie.After-judge) where
   judged =
       c .judge .ensures
       ∙ ap (λ (e : Ended). verdictAndLines e .verdict)
-      (system-end (s .args .p) (s .args .set .now) (s .pre .0) (s .pre .1) (c .before .before .small-system .ensures))
+      (system-end (c .before .before .of-nodes .ensures) (c .before .small-system .ensures))
 
 enum-told : tie.Need-enum-told
 enum-told c = search needs
@@ -49,4 +52,6 @@ returns-2 c =
     (sym (judged j) ∙ c .enum-told2 .given .1))
 
 pub fails-spec : {M : Type 1} → statement M
-fails-spec = tie.close (tie.spec small-system-requires judge-requires enum-told enum-told-2 returns returns-2)
+fails-spec =
+    tie.close
+    (tie.spec of-nodes-requires small-system-requires judge-requires enum-told enum-told-2 returns returns-2)
