@@ -2,7 +2,7 @@
 use mathlib.Core.Path.{_≡_, refl, sym, ap, _∙_}
 use mathlib.Core.Bool.{Bool, cond}
 use mathlib.Core.List.{List}
-use Prim.Native.Nat.{ℕ, zero, suc, _+_, _≤_, _<_}
+use Prim.Native.Nat.{ℕ, zero, suc, _+_, _*_, _≤_, _<_}
 use native.Mathlib.Decide.{ℕ-discrete, decLt}
 use native.Mathlib.Omega.{arith}
 use lib.Dec.{eqb, ltb}
@@ -15,10 +15,14 @@ use Rattle.ksets.specs.Sets.{RisingFrom, none, next, Rising}
 use Rattle.algebra.specs.RowCode.{Choice}
 use Rattle.algebra.specs.HalfPairs.{Positions}
 use Rattle.square.proofs.Steps.{set-at}
-use Rattle.document.proofs.Reading.{rising-below}
+use Rattle.document.specs.declared.Profile.{Profile}
+use Rattle.document.specs.Profile.{Accepted}
+use Rattle.document.specs.Places.{Within}
+use Rattle.document.proofs.Bounds.{partner-within}
+use Rattle.document.proofs.Reading.{rising-below, joined-within}
 use Rattle.coefficients.specs.Weights.{positionIn}
 use Rattle.coefficients.proofs.Positions.{position-here, position-later, position-le, position-back}
-use Rattle.half_pairs.specs.HalfPairs.{positionTable, named}
+use Rattle.half_pairs.specs.HalfPairs.{positionTable, named, partnerAt}
 
 -- Entries of a rising list are not below its first bound.
 rising-from : {n b k : ℕ} {xs : List ℕ} → RisingFrom n b k xs → (m : ℕ) → m < k → b ≤ getD xs m 0
@@ -37,6 +41,11 @@ named-choice r = record {
   below = rising-below r;
   apart = λ i j l h e. let s = rising-apart r i j l h in omega arith;
 }
+
+-- The partner of a strip of their columns is a place of the profile.
+pub joined-partner-within : (p : Profile) → Accepted p → (nodes : List ℕ) → Rising (p .n) (p .k) nodes
+    → (z : ℕ) → z < p .k * p .a → Within p (partnerAt p nodes z)
+joined-partner-within p acc nodes rises z h = partner-within p acc _ (joined-within p acc nodes rises z h)
 
 position-there : {n b k : ℕ} {xs : List ℕ} → RisingFrom n b k xs → (q : ℕ) → q < k → positionIn xs (getD xs q 0) ≡ q
 position-there none q h = absurd (omega arith)

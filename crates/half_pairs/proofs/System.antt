@@ -6,7 +6,8 @@ use Prim.Native.Nat.{ℕ, zero, suc, _*_, _/_, _%_, _≤_, _<_}
 use native.Mathlib.Decide.{ℕ-discrete, decLt}
 use native.Mathlib.Omega.{arith}
 use lib.Dec.{eqb, ltb}
-use lib.ListN.{length, getD, set, take, replicate, length-replicate, length-take, length-set, getD-replicate, List·getD-eq-default}
+use lib.ListN.{length, getD, set, take, replicate}
+use lib.ListN.{length-replicate, length-take, length-set, getD-replicate, List·getD-eq-default}
 use lib.Seq.{ext-getD}
 use borrow.Author.Tests.{lt-ltb, le-ltb, ltb-false, eq-eqb, ne-eqb}
 use Rattle.lists.specs.Listed.{listed}
@@ -67,7 +68,7 @@ module _ (p : Profile) (nodes : List ℕ) where
   open Profile p using (k, a as A)
 
   -- at the partner of strip z it is the algebra's
-  pub coefficient-is : (z y : ℕ)
+  coefficient-is : (z y : ℕ)
       → coefficientIn p nodes (partnerAt p nodes z) y
       ≡ partnerCoefficient bytes A k byte (factorAt p) (named nodes) (positionIn nodes) z y
   unfolding coefficientIn partnerCoefficient
@@ -95,7 +96,8 @@ module _ (p : Profile) (nodes : List ℕ) where
   abbrev pub coefficientEntry : ℕ → ℕ → ℕ
   coefficientEntry e f = number (coefficientIn p nodes (partnerAt p nodes (halfPairAt p nodes e)) (halfPairAt p nodes f))
 
-  pub line-done : (e : ℕ) → e < U p nodes → U p nodes ≤ 80 → (c : List ℕ) → c ≡ filled (coefficientEntry e) (replicate 80 0) (U p nodes)
+  pub line-done : (e : ℕ) → e < U p nodes → U p nodes ≤ 80 → (c : List ℕ)
+      → c ≡ filled (coefficientEntry e) (replicate 80 0) (U p nodes)
       → set c e (getD c e 0 ⊕ 1) ≡ systemLine p nodes e
   unfolding systemLine system
   line-done e h few c made =
@@ -103,7 +105,9 @@ module _ (p : Profile) (nodes : List ℕ) where
       (λ f l. at f (omega (arith, l, length-set c e (getD c e 0 ⊕ 1), size)))
     where
       size : length c ≡ 80
-      size = ap length made ∙ filled-length (coefficientEntry e) (replicate 80 0) (U p nodes) ∙ length-replicate {A = ℕ} 80 0
+      size =
+          ap length made ∙ filled-length (coefficientEntry e) (replicate 80 0) (U p nodes)
+          ∙ length-replicate {A = ℕ} 80 0
 
       wanted : ℕ → ℕ
       wanted f = cond (ltb f (U p nodes)) (number (systemAt p nodes e f)) 0
@@ -119,7 +123,8 @@ module _ (p : Profile) (nodes : List ℕ) where
           inside : f < U p nodes → getD c f 0 ≡ number rel
           inside t =
               ap (λ (x : List ℕ). getD x f 0) made
-              ∙ filled-at (coefficientEntry e) (replicate 80 0) (U p nodes) f 0 t (omega (arith, few, length-replicate {A = ℕ} 80 0))
+              ∙ filled-at (coefficientEntry e) (replicate 80 0) (U p nodes) f 0 t
+              (omega (arith, few, length-replicate {A = ℕ} 80 0))
 
           outside : U p nodes ≤ f → getD c f 0 ≡ 0
           outside t =
@@ -157,7 +162,8 @@ module _ (p : Profile) (nodes : List ℕ) where
   unfolding systemSquare
   square-line few e h =
       ap (λ (l : Line). l .c)
-      (filled-at made (replicate 80 blank) (U p nodes) e noLine h (omega (arith, few, length-replicate {A = Line} 80 blank)))
+      (filled-at made (replicate 80 blank) (U p nodes) e noLine h
+      (omega (arith, few, length-replicate {A = Line} 80 blank)))
 
   line-length : (e : ℕ) → length (systemLine p nodes e) ≡ 80
   unfolding systemLine
@@ -211,7 +217,8 @@ module _ (p : Profile) (nodes : List ℕ) where
     small = square-small few;
   }
 
-  pub system-matrix : U p nodes ≤ 80 → (e f : ℕ) → e < U p nodes → f < U p nodes → matrix (systemSquare p nodes) e f ≡ systemAt p nodes e f
+  pub system-matrix : U p nodes ≤ 80 → (e f : ℕ) → e < U p nodes → f < U p nodes
+      → matrix (systemSquare p nodes) e f ≡ systemAt p nodes e f
   unfolding matrix
   system-matrix few e f h l =
       ap (λ (x : List ℕ). byte (getD x f 0)) (square-line few e h) ∙ ap byte (line-at few e f l) ∙ byte-number _
