@@ -12,6 +12,7 @@ use borrow.Author.Tests.{lt-ltb, le-ltb, eq-eqb, ne-eqb}
 use Rattle.lists.specs.Listed.{listed}
 use Rattle.lists.proofs.Listed.{listed-length, listed-at, listed-ext}
 use Rattle.ksets.specs.Sets.{RisingFrom, none, next, Rising}
+use Rattle.ksets.proofs.Ranked.{risen-length}
 use Rattle.algebra.specs.RowCode.{Choice}
 use Rattle.algebra.specs.HalfPairs.{Positions}
 use Rattle.square.proofs.Steps.{set-at}
@@ -82,7 +83,7 @@ placed-none k nodes =
     ∙ sym (listed-at 24 (placed k nodes 0) j 0 h
     ∙ ap (λ (b : Bool). cond b (positionIn nodes j) k) (le-ltb (positionIn nodes j) 0 (omega arith))))
 
-module _ {n k : ℕ} {nodes : List ℕ} (r : Rising n k nodes) (e : length nodes ≡ k) where
+module _ {n k : ℕ} {nodes : List ℕ} (r : Rising n k nodes) where
   pub placed-next : (q : ℕ) → q < k → named nodes q < 24
       → set (listed 24 (placed k nodes q)) (named nodes q) q ≡ listed 24 (placed k nodes (q + 1))
   placed-next q h below =
@@ -113,7 +114,7 @@ module _ {n k : ℕ} {nodes : List ℕ} (r : Rising n k nodes) (e : length nodes
         where
           other : Dec (positionIn nodes j ≡ q) → q + 1 ≤ positionIn nodes j
           other (yes same) =
-              absurd (d (sym (position-back nodes j (omega (arith, e))) ∙ ap (named nodes) same))
+              absurd (d (sym (position-back nodes j (omega (arith, risen-length r))) ∙ ap (named nodes) same))
           other (no differ) = omega arith
 
   pub placed-all : listed 24 (placed k nodes k) ≡ positionTable nodes
@@ -122,4 +123,4 @@ module _ {n k : ℕ} {nodes : List ℕ} (r : Rising n k nodes) (e : length nodes
     where
       go : (j : ℕ) → Dec (positionIn nodes j < k) → placed k nodes k j ≡ positionIn nodes j
       go j (yes h) = rw (lt-ltb (positionIn nodes j) k h)
-      go j (no h) = rw (le-ltb (positionIn nodes j) k (omega arith)) (omega (arith, position-le nodes j, e))
+      go j (no h) = rw (le-ltb (positionIn nodes j) k (omega arith)) (omega (arith, position-le nodes j, risen-length r))

@@ -3,7 +3,7 @@ use mathlib.Core.Path.{_≡_, ap, _∙_}
 use mathlib.Core.List.{List}
 use Prim.Native.Nat.{ℕ, _-_, _≤_, _<_}
 use native.Mathlib.Omega.{arith}
-use lib.ListN.{length, set}
+use lib.ListN.{set}
 use Rattle.lists.specs.Listed.{listed}
 use Rattle.ksets.proofs.Ranked.{risen-length}
 use Rattle.document.proofs.Reading.{rising-below}
@@ -22,9 +22,6 @@ module _ (s : tie.Start Inv-loop μ-loop) where
   few : s .args .p .k ≤ 24
   few = omega (arith, s .pre .0 .shape .some-parity, s .pre .0 .shape .few-nodes)
 
-  size : length (s .args .nodes .now) ≡ s .args .p .k
-  size = risen-length (s .pre .1)
-
   below : (q : ℕ) → q < s .args .p .k → named (s .args .nodes .now) q < 24
   below q h = omega (arith, rising-below (s .pre .1) q h, s .pre .0 .shape .few-nodes)
 
@@ -39,7 +36,7 @@ abbrev start : tie.After-shared-slice-known Inv-loop μ-loop → tie.Start Inv-l
 start c = c .before .before .before
 
 shared-slice-read-j : tie.Need-shared-slice-read-j Inv-loop μ-loop
-shared-slice-read-j c = omega (arith, size (start c), c .before .loop-test .taken)
+shared-slice-read-j c = omega (arith, risen-length (start c .pre .1), c .before .loop-test .taken)
 
 cast-j : tie.Need-cast-j Inv-loop μ-loop
 cast-j c = omega (arith, below (start c) _ (c .before .loop-test .taken))
@@ -63,7 +60,7 @@ loop-again c =
     let h = c .before .loop-test .taken in (
       omega (arith, h),
       ap (λ (x : List ℕ). set x (named (s .args .nodes .now) (l .q)) (l .q)) (l .inv .1)
-          ∙ placed-next (s .pre .1) (size s) (l .q) h (below s (l .q) h),
+          ∙ placed-next (s .pre .1) (l .q) h (below s (l .q) h),
     )
 
 returns : tie.Need-returns Inv-loop μ-loop
@@ -72,7 +69,7 @@ returns c =
     let s = c .before .before in
     let done : l .q ≡ s .args .p .k = omega (arith, c .loop-test .left, l .inv .0) in
     l .inv .1 ∙ ap (λ (q : ℕ). listed 24 (placed (s .args .p .k) (s .args .nodes .now) q)) done
-    ∙ placed-all (s .pre .1) (size s)
+    ∙ placed-all (s .pre .1)
 
 pub positions-spec : {M : Type 1} → statement M
 positions-spec =
