@@ -1,6 +1,6 @@
 -- The named nodes are a choice of k different nodes, and each stands at its position.
 use mathlib.Core.Path.{_≡_, refl, sym, ap, _∙_}
-use mathlib.Core.Bool.{Bool, cond}
+use mathlib.Core.Bool.{Bool, true, false, cond}
 use mathlib.Core.List.{List}
 use Prim.Native.Nat.{ℕ, zero, suc, _+_, _*_, _≤_, _<_}
 use native.Mathlib.Decide.{ℕ-discrete, decLt}
@@ -107,10 +107,12 @@ module _ {n k : ℕ} {nodes : List ℕ} (r : Rising n k nodes) where
           let at : positionIn nodes j ≡ q = ap (positionIn nodes) d ∙ position-there r q h in
           rw (eq-eqb j (named nodes q) d, at, lt-ltb q (q + 1) (omega arith))
       go j (no d) (yes t) =
-          rw (ne-eqb j (named nodes q) d, lt-ltb (positionIn nodes j) q t, lt-ltb (positionIn nodes j) (q + 1) (omega arith))
+          let near : ltb (positionIn nodes j) (q + 1) ≡ true = lt-ltb (positionIn nodes j) (q + 1) (omega arith) in
+          rw (ne-eqb j (named nodes q) d, lt-ltb (positionIn nodes j) q t, near)
       go j (no d) (no t) =
-          let far : q + 1 ≤ positionIn nodes j = other (ℕ-discrete (positionIn nodes j) q) in
-          rw (ne-eqb j (named nodes q) d, le-ltb (positionIn nodes j) q (omega arith), le-ltb (positionIn nodes j) (q + 1) far)
+          let far : ltb (positionIn nodes j) (q + 1) ≡ false =
+          le-ltb _ _ (other (ℕ-discrete (positionIn nodes j) q)) in
+          rw (ne-eqb j (named nodes q) d, le-ltb (positionIn nodes j) q (omega arith), far)
         where
           other : Dec (positionIn nodes j ≡ q) → q + 1 ≤ positionIn nodes j
           other (yes same) =
@@ -123,4 +125,5 @@ module _ {n k : ℕ} {nodes : List ℕ} (r : Rising n k nodes) where
     where
       go : (j : ℕ) → Dec (positionIn nodes j < k) → placed k nodes k j ≡ positionIn nodes j
       go j (yes h) = rw (lt-ltb (positionIn nodes j) k h)
-      go j (no h) = rw (le-ltb (positionIn nodes j) k (omega arith)) (omega (arith, position-le nodes j, risen-length r))
+      go j (no h) =
+          rw (le-ltb (positionIn nodes j) k (omega arith)) (omega (arith, position-le nodes j, risen-length r))

@@ -122,8 +122,8 @@ module _ (p : Profile) (nodes : List ℕ) where
           → symbols i (named nodes q)
           ≡ knownOf x b i q ⊕ factorOf i q ⊗ symbols (named nodes q % A) (opposite A (named nodes) i q)
       symbol-is =
-          named-symbol bytes (coupled-code p acc) (named nodes) (positionIn nodes) choice positions symbols (joinedAt p nodes x b)
-          (λ i r. row-word p d b i) stores
+          named-symbol bytes (coupled-code p acc) (named nodes) (positionIn nodes) choice positions symbols
+          (joinedAt p nodes x b) (λ i r. row-word p d b i) stores
 
     -- ---- the system has an inverse: data are fixed by their columns on the named nodes
     module _ {T : Matrix bytes} (I : Inverse bytes U U (systemAt p nodes) T) (d c x : List ℕ)

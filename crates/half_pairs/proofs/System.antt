@@ -212,7 +212,8 @@ module _ (p : Profile) (nodes : List ℕ) where
   pub system-shaped : U p nodes ≤ 80 → Shaped (U p nodes) (U p nodes) (systemSquare p nodes)
   unfolding systemSquare
   system-shaped few = record {
-    long = omega (arith, few, filled-length made (replicate 80 blank) (U p nodes), length-replicate {A = Line} 80 blank);
+    long =
+        omega (arith, few, filled-length made (replicate 80 blank) (U p nodes), length-replicate {A = Line} 80 blank);
     wide = λ e h. omega (arith, few, ap length (square-line few e h) ∙ line-length e);
     small = square-small few;
   }

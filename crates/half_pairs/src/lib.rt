@@ -21,8 +21,8 @@ use document::Profile;
 use document::Row;
 use square::Line;
 
-// What a reading needs of its nodes beside the system: where each node stands in the list, the numbers of the half pairs and
-// how many there are, and the weights at all nodes.
+// What the system of a reading is made of: where each node stands in the list of the named nodes, the numbers of the half
+// pairs and how many there are, and the weights at all nodes.
 pub struct HalfPairs {
     pub positions: [u8; 24],
     pub halves: [u8; 80],
@@ -207,7 +207,7 @@ fn system_square(p: Profile, nodes: &[u8], table: &[u8], halves: &[u8]) -> [Line
     s
 }
 
-// What the system of the named nodes is made of, once for a call.
+// The half pairs of the named nodes and what belongs to them, once for a call. Past the half pairs `halves` holds zeros.
 pub fn of_nodes(p: Profile, nodes: &[u8]) -> HalfPairs
     requires { ⌜ Accepted p × Rising (p .n) (p .k) (now nodes) ⌝ }
     ensures { λ r. ⌜ HalfPairsOf p (now (nodes .entry)) r ⌝ }
@@ -224,7 +224,7 @@ pub fn of_nodes(p: Profile, nodes: &[u8]) -> HalfPairs
     }
 }
 
-// The system, made of it.
+// The system, made of them.
 pub fn small_system(p: Profile, nodes: &[u8], h: HalfPairs) -> [Line; 80]
     requires { ⌜ Accepted p × Rising (p .n) (p .k) (now nodes) × HalfPairsOf p (now nodes) h ⌝ }
     ensures { λ r. ⌜ r ≡ systemSquare p (now (nodes .entry)) ⌝ }
