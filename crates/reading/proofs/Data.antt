@@ -67,7 +67,6 @@ use Rattle.half_pairs.proofs.Symbols.{
   partnerSymbol,
   half-each,
   half-has,
-  not-true,
   inverse-clear,
   solved,
   symbol-is,
@@ -188,7 +187,7 @@ module _ (p : Profile) (acc : Accepted p) (nodes : List ℕ) (rises : Rising (p 
   r = knownPartnerStrips p nodes y
 
   other-node : (e : ℕ) → e < count → isNamed k nodes (partnerAt p nodes (o e) .node .0) ≡ false
-  other-node e h = not-true _ (half-each p nodes acc rises e h .0)
+  other-node e h = half-each p nodes acc rises e h .0
 
   partner-byte : (e b : ℕ) → e < count → b < S → getD r (e * S + b) 0 ≡ number (knownPartnerOf p nodes x b (o e))
   unfolding knownPartnerStrips knownPartnerStrip combinationOf knownPartner

@@ -25,9 +25,9 @@ use Rattle.document.specs.Encoding.{factorAt}
 use Rattle.document.proofs.Bounds.{A>0}
 use Rattle.document.proofs.Bytes.{number-byte}
 use Rattle.lists.specs.Positions.{positionIn}
-use Rattle.half_pairs.specs.HalfPairs.{named, partnerAt}
+use Rattle.half_pairs.specs.HalfPairs.{named, partnerAt, joinedAt}
 use Rattle.half_pairs.proofs.Named.{named-positions}
-use Rattle.reading.specs.Steps.{multipleOf, uncoupledStrip, joinedAt, knownStrip}
+use Rattle.reading.specs.Steps.{multipleOf, uncoupledStrip, knownStrip}
 
 -- the entries of a list
 entries : (n : ℕ) (xs : List ℕ) → length xs ≡ n → listed n (λ b. getD xs b 0) ≡ xs

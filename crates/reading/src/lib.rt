@@ -307,16 +307,17 @@ fn read_from(p: Profile, nodes: &[u8], columns: &[u8], output: &mut [u8]) -> Ans
     ensures { λ r. ⌜ (r, now (output .exit))
         ≡ readingAnswer p (now (nodes .entry)) (now (columns .entry)) (now (output .entry)) ⌝ }
 {
-    let positions = half_pairs::positions(nodes);
-    let mut halves = [0u8; 80];
-    let count = half_pairs::list_half_pairs(&mut halves, p, nodes, &positions);
-    let table = half_pairs::weight_table(p, nodes, &positions);
-    let s = half_pairs::system_square(p, nodes, &table, &halves[..count]);
+    let h = half_pairs::of_nodes(p, nodes);
+    let s = half_pairs::small_system(p, nodes, h);
+    let count = h.count;
     let e = square::invert(s, count, count);
     let verdict = e.verdict;
     match verdict {
         Verdict::Singular(_) => Answer::Refused(Refusal::Ambiguous),
         Verdict::Regular => {
+            let positions = h.positions;
+            let table = h.table;
+            let halves = h.halves;
             let lines = e.lines;
             put_data(
                 output,
