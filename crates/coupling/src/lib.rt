@@ -72,7 +72,7 @@ pub fn determinant(p: Profile, i: Row, l: usize) -> u8
 }
 
 // Adds c times a strip. Half of the factors are 1, which needs no product. For another small one the strip is copied,
-// since `add_multiple` uses its strip up; from 16 on the copy can cost more than it saves.
+// since `add_multiple` uses its strip up; from 25 on the copy can cost more than it saves.
 pub fn add_times(x: &mut [u8], strip: &[u8], c: u8)
     requires { ⌜ (length (now strip) ≡ length (now x)) × (length (now x) ≤ 512) ⌝ }
     ensures { λ _. ⌜ now (x .exit) ≡ addedScaled c 0 (now (strip .entry)) (now (x .entry)) ⌝ }
@@ -81,7 +81,7 @@ pub fn add_times(x: &mut [u8], strip: &[u8], c: u8)
         strips::add(x, 0, strip);
         return;
     }
-    if c >= 16 {
+    if c >= 25 {
         strips::add_scaled(x, 0, strip, c);
         return;
     }
