@@ -2,8 +2,6 @@
 -- row i of the q-th named node. x are the joined columns, y strips of the named nodes, r right-hand sides of the system of
 -- the half pairs, a strip for each.
 --
--- multipleOf d strip                : d times each byte of a strip
--- uncoupledStrip f d own partner    : d times the sum of own and f times partner, byte by byte
 -- knownStrip p nodes x z            : what x gives of the base symbols of strip z: all of them where its partner is named,
 --                                     otherwise the stored ones
 -- knownStrips p nodes x             : the same of all strips
@@ -21,7 +19,6 @@ use mathlib.Core.List.{List}
 use Prim.Native.Nat.{ℕ, zero, suc, _*_, _/_, _%_}
 use lib.ListN.{length, getD, take}
 use Rattle.lists.specs.Listed.{listed}
-use Rattle.gf256.specs.Field.{_⊕_, _⊗_}
 use Rattle.algebra.specs.HalfPairs.{known}
 use Rattle.strips.specs.Strips.{combinationOf, stripAt, addedScaled}
 use Rattle.square.specs.declared.Line.{Line}
@@ -35,12 +32,6 @@ use Rattle.document.specs.Encoding.{factorAt}
 use Rattle.document.specs.Reading.{ambiguous, dataFrom}
 use Rattle.lists.specs.Positions.{positionIn}
 use Rattle.half_pairs.specs.HalfPairs.{named, isNamed, partnerAt, halfPairs, halfPairAt, weightRow, joinedAt}
-
-unfoldable pub multipleOf : ℕ → List ℕ → List ℕ
-multipleOf d strip = listed (length strip) (λ b. d ⊗ getD strip b 0)
-
-unfoldable pub uncoupledStrip : ℕ → ℕ → List ℕ → List ℕ → List ℕ
-uncoupledStrip f d own partner = listed (length own) (λ b. d ⊗ (getD own b 0 ⊕ (f ⊗ getD partner b 0)))
 
 module _ (p : Profile) (nodes : List ℕ) where
   open Profile p using (k, a as A, s as S)

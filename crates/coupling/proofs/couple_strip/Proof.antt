@@ -1,4 +1,4 @@
--- `encode::couple_strip` meets its contract: the partner of an upper strip lies before it in memory.
+-- `coupling::couple_strip` meets its contract: the partner of an upper strip lies before it in memory.
 use mathlib.Core.Path.{_≡_, sym, ap, ap₂, _∙_}
 use Prim.Native.Nat.{ℕ, _+_, _*_, _/_, _%_, _≤_, _<_}
 use native.Mathlib.Omega.{arith}
@@ -11,10 +11,11 @@ use Rattle.document.specs.Bytes.{number}
 use Rattle.document.specs.Encoding as E
 use Rattle.document.specs.Encoding.{constantOf}
 use Rattle.document.proofs.Bounds.{A>0, room, place-within, partner-within}
-use Rattle.encode.specs.Steps.{partnerStrip}
-use Rattle.encode.proofs.Partners.{partner-before, strip-start, partner-start, upper-pair, no-upper}
-use Rattle.encode.proofs.couple_strip.Statement.{statement}
-use Rattle.encode.proofs.couple_strip.Tie as tie
+use Rattle.coupling.specs.Pairs.{partnerStrip}
+use Rattle.coupling.proofs.Partners.{partner-before, strip-start, partner-start, no-upper}
+use Rattle.coupling.proofs.Coupled.{upper-pair}
+use Rattle.coupling.proofs.couple_strip.Statement.{statement}
+use Rattle.coupling.proofs.couple_strip.Tie as tie
 
 -- strip z is a strip of the array
 within : (c : tie.After-place) → Within (c .before .before .args .p) (c .place .result)
@@ -84,8 +85,8 @@ start-requires-2 c κs =
 constant-requires : tie.Need-constant-requires
 constant-requires c κs = search needs
 
-couple-requires : tie.Need-couple-requires
-couple-requires c κs =
+couple-pair-requires : tie.Need-couple-pair-requires
+couple-pair-requires c κs =
     let b = c .before .before in (
       q b .before .before .pre .0 .short,
       omega (arith, upper-start b, lower-start b, apart b),
@@ -100,7 +101,7 @@ returns c =
     let b = c .before .before .before .before .before in
     let placed = q b .place .ensures in
     upper-pair (p b) (z b) (upper (b .before .before .before .before))
-    (q b .before .before .args .x .now) (c .before .before .couple .ensures)
+    (q b .before .before .args .x .now) (c .before .before .couple-pair .ensures)
     (c .before .before .before .before .constant .ensures
     ∙ ap₂ (λ (r o : Place). number (constantOf (p b) (r .row .0) (o .row .0)))
     (b .before .before .before .partner .ensures ∙ ap (partnerOf (p b .a)) placed) placed)
@@ -110,7 +111,7 @@ returns-2 : tie.Need-returns-2
 returns-2 c =
     let s = c .before .before .before .before .before in
     let h = rw (c .before .before .before .place .ensures) at (c .if1 .left) in
-    sym (no-upper (s .args .p) (s .args .z) h (s .args .x .now))
+    sym (no-upper (s .args .p) (s .args .z) h _ (s .args .x .now))
 
 pub couple-strip-spec : {M : Type 1} → statement M
 couple-strip-spec =
@@ -122,7 +123,7 @@ couple-strip-spec =
     start-requires
     start-requires-2
     constant-requires
-    couple-requires
+    couple-pair-requires
     same-length
     returns
     returns-2)

@@ -1,4 +1,4 @@
--- `reading::put_multiple` meets its contract.
+-- `coupling::put_multiple` meets its contract.
 use mathlib.Core.Path.{sym, ap, _∙_}
 use native.Mathlib.Omega.{arith}
 use borrow.Author.Needs.{needs}
@@ -6,9 +6,9 @@ use lib.ListN.{length}
 use Rattle.lists.proofs.Listed.{listed-length}
 use Rattle.strips.specs.Strips.{addedScaled}
 use Rattle.strips.proofs.Strip.{strip-all}
-use Rattle.reading.proofs.Known.{multiple-one, multiple-added}
-use Rattle.reading.proofs.put_multiple.Statement.{statement}
-use Rattle.reading.proofs.put_multiple.Tie as tie
+use Rattle.coupling.proofs.Multiples.{multiple-one, multiple-added}
+use Rattle.coupling.proofs.put_multiple.Statement.{statement}
+use Rattle.coupling.proofs.put_multiple.Tie as tie
 
 copy-requires : tie.Need-copy-requires
 copy-requires c κs = search needs

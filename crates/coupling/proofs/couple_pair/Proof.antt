@@ -1,4 +1,4 @@
--- `strips::couple` meets its contract: the fronts of the two arrays hold the strips as they were.
+-- `coupling::couple_pair` meets its contract: the fronts of the two arrays hold the strips as they were.
 use mathlib.Core.Path.{_≡_, sym, ap, _∙_}
 use mathlib.Core.List.{List}
 use Prim.Native.Nat.{ℕ}
@@ -8,11 +8,11 @@ use lib.ListN.{length}
 use lib.Seq.{length-take-le}
 use Rattle.lists.proofs.Patched.{patched-length}
 use Rattle.lists.proofs.Lent.{front-fits, front}
 use Rattle.strips.specs.Strips.{stripAt, addedScaled, addedStrip}
 use Rattle.strips.proofs.Strip.{strip-length}
-use Rattle.strips.proofs.Coupled.{both-added}
-use Rattle.strips.proofs.couple.Statement.{statement}
-use Rattle.strips.proofs.couple.Tie as tie
+use Rattle.coupling.proofs.Changed.{both-added}
+use Rattle.coupling.proofs.couple_pair.Statement.{statement}
+use Rattle.coupling.proofs.couple_pair.Tie as tie
 
 array-borrow-prefix-u : tie.Need-array-borrow-prefix-u
 array-borrow-prefix-u c = search needs
@@ -105,11 +105,11 @@ returns c =
     let a = (start w) .args in
     c .before .before .before .add-multiple .ensures
     ∙ ap (addedScaled (a .t) (a .lower) _) (added .add .ensures)
-    ∙ both-added (a .t) (a .upper) (a .lower) (a .s) (x w) ((start w) .pre .1) ((start w) .pre .2) _ _
+    ∙ both-added (a .t) (a .upper) (a .lower) (a .s) (x w) ((start w) .pre .1) _ _
     (front (u w) _ (upper-size w) ∙ upper w) (front (v w) _ (lower-size w) ∙ lower w)
 
-pub couple-spec : {M : Type 1} → statement M
-couple-spec =
+pub couple-pair-spec : {M : Type 1} → statement M
+couple-pair-spec =
     tie.close
     (tie.spec
     array-borrow-prefix-u

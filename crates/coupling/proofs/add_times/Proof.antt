@@ -1,4 +1,4 @@
--- `rebuild::add_times` meets its contract: adding once is adding with the factor 1, and the copy is the strip.
+-- `coupling::add_times` meets its contract: adding once is adding with the factor 1, and the copy is the strip.
 use mathlib.Core.Path.{_≡_, sym, ap, _∙_}
 use mathlib.Core.List.{List}
 use Prim.Native.Nat.{ℕ}
@@ -10,8 +10,8 @@ use Rattle.lists.proofs.Lent.{front-fits, front}
 use Rattle.strips.specs.Strips.{addedScaled}
 use Rattle.strips.proofs.Strip.{strip-all}
 use Rattle.strips.proofs.Added.{added-once}
-use Rattle.rebuild.proofs.add_times.Statement.{statement}
-use Rattle.rebuild.proofs.add_times.Tie as tie
+use Rattle.coupling.proofs.add_times.Statement.{statement}
+use Rattle.coupling.proofs.add_times.Tie as tie
 
 add-requires : tie.Need-add-requires
 add-requires c κs = search needs

@@ -1,4 +1,4 @@
--- `encode::couple` meets its contract. The invariant: the pairs whose upper strip lies before z are coupled, all else
+-- `coupling::couple` meets its contract. The invariant: the pairs whose upper strip lies before z are coupled, all else
 -- is as it was.
 use mathlib.Core.Path.{_≡_, sym, subst, _∙_}
 use Prim.Native.Nat.{ℕ, _+_, _-_, _*_, _≤_, _<_, zero-le}
@@ -6,12 +6,14 @@ use native.Mathlib.Omega.{arith}
 use borrow.Author.Needs.{needs}
 use lib.ListN.{getD}
 use Rattle.document.proofs.Bounds.{strips-bound}
-use Rattle.encode.proofs.Pairs.{Mixed, none-coupled, next-coupled, all-coupled}
-use Rattle.encode.proofs.couple.Statement.{statement}
-use Rattle.encode.proofs.couple.Tie as tie
+use Rattle.coupling.specs.Pairs.{coupledByte}
+use Rattle.coupling.proofs.Pairs.{Mixed, none-changed, next-changed}
+use Rattle.coupling.proofs.Coupled.{coupled-stays, all-coupled}
+use Rattle.coupling.proofs.couple.Statement.{statement}
+use Rattle.coupling.proofs.couple.Tie as tie
 
 abbrev Inv-loop : tie.InvT-loop
-Inv-loop x₀ p count z₀ x z = (z ≤ count) × Mixed p x₀ z x
+Inv-loop x₀ p count z₀ x z = (z ≤ count) × Mixed p (coupledByte p) x₀ z x
 
 abbrev μ-loop : tie.MeasureT-loop
 μ-loop x₀ p count z₀ x z = count - z
@@ -25,7 +27,7 @@ mul-count c = let s = c .before .before in omega (arith, strips-bound (s .args .
 loop-holds : tie.Need-loop-holds Inv-loop μ-loop
 loop-holds c =
     let s = c .before .before in
-    (zero-le, none-coupled (s .args .p) (s .pre .0) (s .args .x .now) (small (c .before)) (s .pre .1))
+    (zero-le, none-changed (s .args .p) _ (s .args .x .now) (s .pre .0) (s .pre .1))
 
 couple-strip-requires : tie.Need-couple-strip-requires Inv-loop μ-loop
 couple-strip-requires c κs =
@@ -47,9 +49,9 @@ loop-again c =
     let s = k .before in
     let h = c .before .before .before .before .loop-test .taken in (
       omega (arith, h),
-      subst (Mixed (s .args .p) (s .args .x .now) (l .loop .z + 1)) (sym (c .before .before .couple-strip .ensures))
-          (next-coupled (s .args .p) (s .pre .0) (s .args .x .now) (small k) (l .loop .z) h (l .loop .x)
-          (l .loop .inv .1)),
+      subst (Mixed (s .args .p) _ (s .args .x .now) (l .loop .z + 1)) (sym (c .before .before .couple-strip .ensures))
+          (next-changed (s .args .p) _ (s .args .x .now) (s .pre .0) (small k) (coupled-stays (s .args .p))
+          (l .loop .z) h (l .loop .x) (l .loop .inv .1)),
     )
 
 same-length : tie.Need-same-length Inv-loop μ-loop
@@ -61,8 +63,9 @@ returns c =
     let k = l .before .before in
     let s = k .before in
     let e : l .loop .z ≡ s .args .p .n * s .args .p .a = omega arith in
-    all-coupled (s .args .p) (s .pre .0) (s .args .x .now) (small k) (l .loop .x)
-    (subst (λ (m : ℕ). Mixed (s .args .p) (s .args .x .now) m (l .loop .x)) e (l .loop .inv .1))
+    all-coupled (s .args .p) (s .args .x .now) (small k) (s .pre .0) (l .loop .x)
+    (subst (λ (m : ℕ). Mixed (s .args .p) (coupledByte (s .args .p)) (s .args .x .now) m (l .loop .x)) e
+    (l .loop .inv .1))
 
 pub couple-spec : {M : Type 1} → statement M
 couple-spec =

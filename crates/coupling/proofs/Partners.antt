@@ -13,11 +13,9 @@ use lib.Dec.{ltb}
 use borrow.Author.Tests.{lt-ltb, le-ltb}
 use Rattle.document.specs.declared.Profile.{Profile}
 use Rattle.document.specs.Places.{place, partnerOf}
-use Rattle.document.specs.Bytes.{number}
-use Rattle.document.specs.Encoding.{start, constantOf}
+use Rattle.document.specs.Encoding.{start}
 use Rattle.document.proofs.Bounds.{room}
-use Rattle.strips.specs.Strips.{coupledStrips}
-use Rattle.encode.specs.Steps.{partnerStrip, pairCoupled}
+use Rattle.coupling.specs.Pairs.{partnerStrip, Change, pairChanged}
 
 -- The upper strip of the pair of strip z; a strip on the diagonal is its own.
 unfoldable pub upperOf : ℕ → ℕ → ℕ
@@ -97,14 +95,6 @@ module _ (p : Profile) (z : ℕ) where
   unfolding start
   partner-start = refl
 
-  -- an upper strip and its partner, coupled
-  pub upper-pair : z % A < z / A % A → (x : List ℕ) {y : List ℕ} {t upper lower : ℕ}
-      → y ≡ coupledStrips t upper lower S x
-      → t ≡ number (constantOf p (z / A % A) (z % A)) → upper ≡ z * S → lower ≡ partnerStrip A z * S
-      → y ≡ pairCoupled p z x
-  unfolding pairCoupled
-  upper-pair h x e k u l = rw (lt-ltb (z % A) (z / A % A) h, ← k, ← u, ← l) e
-
-  pub no-upper : z / A % A ≤ z % A → (x : List ℕ) → pairCoupled p z x ≡ x
-  unfolding pairCoupled
-  no-upper h x = simp (le-ltb _ _ h)
+  pub no-upper : z / A % A ≤ z % A → (g : Change) (x : List ℕ) → pairChanged p g z x ≡ x
+  unfolding pairChanged
+  no-upper h g x = simp (le-ltb _ _ h)
