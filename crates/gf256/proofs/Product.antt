@@ -58,9 +58,9 @@ shifted-sum a b =
     (ap₂ differ (N.mul-mod-left a 2) (N.mul-mod-left b 2))
     ∙ N.add-zero ((a ⊕ b) * 2))
 
-double-sum : (a b : ℕ) → double (a ⊕ b) ≡ double a ⊕ double b
+pub double-add : (a b : ℕ) → double (a ⊕ b) ≡ double a ⊕ double b
 unfolding double
-double-sum a b =
+double-add a b =
     ap₂ _⊕_
     (ap (λ (x : ℕ). x % 256) (shifted-sum a b) ∙ X.mask 8 (a * 2) (b * 2))
     (ap (λ (x : ℕ). reduced * (x % 2)) (X.shift 7 a b) ∙ X.times-bit-of-sum reduced (a / 128) (b / 128))
@@ -71,7 +71,7 @@ unfolding bitProduct
 bits-sum-left zero a b c = sym (X.add-self 0)
 bits-sum-left (suc n) a b c =
     ap₂ _⊕_ (X.sum-times-bit a b c)
-    (ap (λ (x : ℕ). bitProduct n x (c / 2)) (double-sum a b) ∙ bits-sum-left n (double a) (double b) (c / 2))
+    (ap (λ (x : ℕ). bitProduct n x (c / 2)) (double-add a b) ∙ bits-sum-left n (double a) (double b) (c / 2))
     ∙ X.add-medial (a * (c % 2)) (b * (c % 2)) (bitProduct n (double a) (c / 2)) (bitProduct n (double b) (c / 2))
 
 bits-sum-right : (n a b c : ℕ) → bitProduct n a (b ⊕ c) ≡ bitProduct n a b ⊕ bitProduct n a c
@@ -172,7 +172,7 @@ double-low a = ap₂ _⊕_ (omega arith) (omega arith)
 
 pub double-two : (a : ℕ) → double a ≡ 2 ⊗ a
 unfolding _⊗_ bitProduct double _⊕_
-double-two = agree-test double (λ a. 2 ⊗ a) (record { sum = double-sum; low = double-low }) (right 2) tt
+double-two = agree-test double (λ a. 2 ⊗ a) (record { sum = double-add; low = double-low }) (right 2) tt
 
 -- ---- bounds
 pub double-lt : (a : ℕ) → double a < 256

@@ -1,9 +1,12 @@
-// The field of 256 elements, by tables of the powers of 2 and of their logarithms.
+// The field of 256 elements. A product is had in two ways: by tables of the powers of 2 and of their logarithms, for single
+// bytes and for sums of many logarithms; and by the bits of a factor (`twice`, `times`), with shifts and exclusive ors
+// alone, for loops over strips. A table is copied whole where it is read, and a loop that reads one is not turned into
+// vectors.
 ghost use mathlib.Core.Path.{_≡_};
 ghost use Prim.Native.Nat.{_<_, _≤_};
 ghost use lib.ListN.{length};
 ghost use Rattle.gf256.specs.Field;
-ghost use Rattle.gf256.specs.Field.{_⊗_, power, tableOf, productOf, quotientsOf, NoZero};
+ghost use Rattle.gf256.specs.Field.{_⊗_, double, power, tableOf, productOf, quotientsOf, NoZero};
 
 mod table;
 
@@ -23,7 +26,35 @@ fn log_at(log: &[u8; 256], a: u8) -> usize
     log[a as usize] as usize
 }
 
-// The product.
+// The product with 2.
+pub fn twice(a: u8) -> u8
+    ensures { λ r. ⌜ r ≡ double a ⌝ }
+{
+    let r: u8 = if a >= 128 { 0x1D } else { 0 };
+    (a << 1) ^ r
+}
+
+// The product, by the bits of s. `mul` gives the same by the tables; this form is for loops over strips, which the compiler
+// turns into vectors.
+pub fn times(c: u8, s: u8) -> u8
+    ensures { λ r. ⌜ r ≡ c ⊗ s ⌝ }
+{
+    let mut r: u8 = 0;
+    let mut x = c;
+    let mut y = s;
+    let mut n: usize = 8;
+    while n > 0 {
+        if (y & 1) == 1 {
+            r = r ^ x;
+        }
+        x = twice(x);
+        y = y >> 1;
+        n -= 1;
+    }
+    r
+}
+
+// The product, by the tables.
 pub fn mul(a: u8, b: u8) -> u8
     ensures { λ r. ⌜ r ≡ a ⊗ b ⌝ }
 {

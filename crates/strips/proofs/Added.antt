@@ -2,20 +2,46 @@
 use mathlib.Core.Path.{_≡_, refl, sym, ap, ap₂, _∙_}
 use mathlib.Core.Bool.{Bool, true, false, _&&_, cond}
 use mathlib.Core.List.{List}
-use Prim.Native.Nat.{ℕ, _+_, _-_, _/_, _%_, _≤_, _<_}
+use Prim.Native.Nat.{ℕ, _+_, _-_, _/_, _%_, _≤_, _<_, zero-le}
 use native.Mathlib.Nat.{zero-add}
 use native.Mathlib.Decide.{decLt}
 use native.Mathlib.Omega.{arith}
 use lib.Dec.{leb, ltb}
-use lib.ListN.{length, getD, List·getD-eq-default}
+use lib.ListN.{length, getD, set, length-set, List·getD-eq-default}
 use lib.Seq.{ext-getD}
 use Rattle.lists.specs.Listed.{listed, patched}
 use Rattle.lists.proofs.Listed.{listed-length, listed-at, listed-ext}
 use Rattle.lists.proofs.Patched.{patched-ext, patched-length, patched-in, patched-out}
+use Rattle.lists.proofs.Patched.{patched-none, patched-next, patched-more}
 use Rattle.gf256.specs.Field.{_⊕_, _⊗_, double}
-use Rattle.gf256.proofs.Ring.{add-zero, add-assoc, mul-zero, zero-mul, one-mul, mul-comm}
-use Rattle.strips.specs.Strips.{stripAt, addedScaled, addedStrip, doubledStrip}
-use Rattle.strips.proofs.Byte.{mul-turn}
+use Rattle.gf256.proofs.Ring.{add-zero, add-assoc, mul-zero, zero-mul, one-mul, mul-turn}
+use Rattle.strips.specs.Strips.{stripAt, addedBy, addedScaled, addedStrip, doubledStrip}
+
+-- ---- the loop that adds: y is x with g of each of the first b bytes of src added
+pub record Adding (g : ℕ → ℕ) (at : ℕ) (src x : List ℕ) (b : ℕ) (y : List ℕ) : Type 0 where
+  pub passed : b ≤ length src
+  pub size : length y ≡ length x
+  pub holds : y ≡ patched at b (λ b. getD x (at + b) 0 ⊕ g (getD src b 0)) x
+
+module _ {g : ℕ → ℕ} {at : ℕ} {src x : List ℕ} where
+  pub adding-none : Adding g at src x 0 x
+  adding-none = record { passed = zero-le; size = refl; holds = patched-none at _ x }
+
+  module _ {b : ℕ} {y : List ℕ} (w : Adding g at src x b y) where
+    -- v is what g gives of the next byte
+    pub adding-more : b < length src → at + length src ≤ length x → {v : ℕ} → v ≡ g (getD src b 0)
+        → Adding g at src x (b + 1) (set y (at + b) (getD y (at + b) 0 ⊕ v))
+    adding-more h fits e = record {
+      passed = omega arith;
+      size = simp length-set (w .size);
+      holds = patched-more at b _ x y (w .holds) (omega arith) _
+          (ap₂ _⊕_ (patched-next at b _ x y (w .holds) (omega arith)) e);
+    }
+
+    pub adding-all : length src ≤ b → y ≡ addedBy g at src x
+    adding-all h =
+        let e : b ≡ length src = omega arith in
+        w .holds ∙ ap (λ (m : ℕ). patched at m (λ b. getD x (at + b) 0 ⊕ g (getD src b 0)) x) e
 
 -- a part written anew
 patched-again : (at m : ℕ) (f g : ℕ → ℕ) (x : List ℕ) → patched at m f (patched at m g x) ≡ patched at m f x
@@ -64,9 +90,7 @@ added-zero at ys xs =
 module _ (at y : ℕ) (s x : List ℕ) (small : y < 256) (fits : at + length s ≤ length x) where
   bit-at : (a v : ℕ) → (a ⊕ ((y % 2) ⊗ v)) ⊕ ((y / 2) ⊗ double v) ≡ a ⊕ (y ⊗ v)
   bit-at a v =
-      add-assoc a ((y % 2) ⊗ v) ((y / 2) ⊗ double v)
-      ∙ ap (λ (z : ℕ). a ⊕ z) (ap₂ _⊕_ (mul-comm (y % 2) v) (mul-comm (y / 2) (double v))
-      ∙ sym (mul-turn v y small) ∙ mul-comm v y)
+      add-assoc a ((y % 2) ⊗ v) ((y / 2) ⊗ double v) ∙ ap (λ (z : ℕ). a ⊕ z) (sym (mul-turn y v small))
 
   pub added-bit : addedScaled (y / 2) at (doubledStrip s) (addedScaled (y % 2) at s x) ≡ addedScaled y at s x
   unfolding addedScaled doubledStrip

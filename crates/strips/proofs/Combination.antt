@@ -10,10 +10,9 @@ use lib.Pow.{shr-shr, shr-le}
 use Rattle.lists.specs.Listed.{listed}
 use Rattle.lists.proofs.Listed.{listed-length, listed-at, listed-ext}
 use Rattle.gf256.specs.Field.{_⊕_, _⊗_, double}
-use Rattle.gf256.proofs.Ring.{ring, zero-mul, add-self}
+use Rattle.gf256.proofs.Ring.{ring, zero-mul, add-self, double-add, mul-bit}
 use Rattle.strips.specs.Strips.{sumOf, combinationOf}
 use Rattle.strips.specs.Planes.{shiftedBy, bitsAt, planeOf}
-use Rattle.strips.proofs.Byte.{double-add, mul-bit}
 
 pub combination-length : (ws src : List ℕ) (first stride len : ℕ) → length (combinationOf ws src first stride len) ≡ len
 unfolding combinationOf

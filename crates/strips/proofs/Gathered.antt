@@ -1,6 +1,7 @@
 -- The offsets of the sources whose weight has a bit: how they are gathered, where they lie, what adding at them
 -- gives.
 use mathlib.Core.Path.{_≡_, refl, sym, ap, ap₂, _∙_}
+use mathlib.Core.Bool.{true}
 use mathlib.Core.List.{List, [], _∷_, _++_, append-nil}
 use Prim.Native.Nat.{ℕ, zero, suc, _+_, _*_, _/_, _%_, _^_, _≤_, _<_}
 use native.Mathlib.Nat.{mod-lt, add-zero, zero-mul, suc-mul, le-refl}
@@ -14,7 +15,7 @@ use Rattle.lists.proofs.Listed.{listed-ext}
 use Rattle.gf256.specs.Field.{_⊕_, double}
 use Rattle.gf256.proofs.Ring as R
 use Rattle.strips.specs.Strips.{sumOf}
-use Rattle.strips.specs.Planes.{bitsAt, planeOf, offsetsOf, addedAt, doubledWith}
+use Rattle.strips.specs.Planes.{bitsAt, planeOf, offsetsOf, addedAt, addedWith}
 
 -- ---- gathering
 bits-length : (i : ℕ) (ws : List ℕ) → length (bitsAt i ws) ≡ length ws
@@ -107,8 +108,8 @@ added-gathered i (w ∷ ws) src first stride b h =
     ∙ ap (λ (p : ℕ). sumOf (bitsAt i ws) src p stride) (omega arith))
 
 pub plane-gathered : (i : ℕ) (ws src x : List ℕ) (first stride : ℕ) (os y : List ℕ) → ((p : ℕ) → getD src p 0 < 256)
-    → os ≡ offsetsOf (bitsAt i ws) first stride → y ≡ doubledWith os src x → y ≡ planeOf i ws src first stride x
-unfolding doubledWith planeOf
+    → os ≡ offsetsOf (bitsAt i ws) first stride → y ≡ addedWith true os src x → y ≡ planeOf i ws src first stride x
+unfolding addedWith planeOf
 plane-gathered i ws src x first stride os y h e f =
     f
     ∙ listed-ext (length x) _ _ (λ b l.

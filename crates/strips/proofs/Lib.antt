@@ -1,4 +1,3 @@
-pub mod Byte
 pub mod Combination
 pub mod Gathered
 pub mod Passes

@@ -1,5 +1,6 @@
 -- The passes over a plane: the parts of src that they read, four at a time, and what a pass leaves.
 use mathlib.Core.Path.{_≡_, refl, sym, ap, ap₂, _∙_}
+use mathlib.Core.Bool.{Bool, false}
 use mathlib.Core.List.{List, [], _∷_, _++_}
 use Prim.Native.Nat.{ℕ, zero, suc, _+_, _≤_, _<_}
 use native.Mathlib.Nat.{add-zero}
@@ -10,10 +11,9 @@ use lib.ListN.{drop-of-length-le, List·getD-eq-default}
 use lib.Seq.{ext-getD, getD-take, getD-drop, take-add, take-nil}
 use lib.Seq.{drop-cons, length-take-le}
 use Rattle.lists.proofs.Listed.{listed-length, listed-at, listed-ext}
-use Rattle.gf256.specs.Field.{_⊕_, double}
+use Rattle.gf256.specs.Field.{_⊕_}
 use Rattle.gf256.proofs.Ring as R
-use Rattle.strips.specs.Planes.{addedAt, addedWith, doubledWith}
-use Rattle.strips.specs.Planes.{partOf, addedFour, doubledFour}
+use Rattle.strips.specs.Planes.{addedAt, doubledIf, addedWith, partOf, addedFour}
 
 -- ---- the parts of src
 -- within a list the default does not count
@@ -105,36 +105,28 @@ module _ (os src : List ℕ) (n : ℕ) where
 sort-four : (x a b c d : ℕ) → x ⊕ a ⊕ b ⊕ c ⊕ d ≡ x ⊕ (a ⊕ (b ⊕ (c ⊕ d)))
 sort-four x a b c d = simp R.add-assoc
 
--- what the two passes leave
-pub added-pass : (os src x : List ℕ) (j : ℕ)
-    → addedFour x (partOf os src j (length x)) (partOf os src (j + 1) (length x)) (partOf os src (j + 2) (length x))
+-- what a pass leaves
+pub added-pass : (d : Bool) (os src x : List ℕ) (j : ℕ)
+    → addedFour d x (partOf os src j (length x)) (partOf os src (j + 1) (length x)) (partOf os src (j + 2) (length x))
     (partOf os src (j + 3) (length x))
-    ≡ addedWith (take 4 (drop j os)) src x
+    ≡ addedWith d (take 4 (drop j os)) src x
 unfolding addedFour addedWith
-added-pass os src x j =
+added-pass d os src x j =
     listed-ext (length x) _ _ (λ b h.
-    sort-four _ _ _ _ _ ∙ ap (λ (z : ℕ). getD x b 0 ⊕ z) (sym (added-four os src (length x) j b h)))
+    sort-four _ _ _ _ _ ∙ ap (λ (z : ℕ). doubledIf d (getD x b 0) ⊕ z) (sym (added-four os src (length x) j b h)))
 
-pub doubled-pass : (os src x : List ℕ)
-    → doubledFour x (partOf os src 0 (length x)) (partOf os src 1 (length x)) (partOf os src 2 (length x))
-    (partOf os src 3 (length x))
-    ≡ doubledWith (take 4 os) src x
-unfolding doubledFour doubledWith
-doubled-pass os src x =
-    listed-ext (length x) _ _ (λ b h.
-    sort-four _ _ _ _ _ ∙ ap (λ (z : ℕ). double (getD x b 0) ⊕ z) (sym (added-four os src (length x) 0 b h)))
-
-both-passes : (os ps src x : List ℕ) → addedWith ps src (doubledWith os src x) ≡ doubledWith (os ++ ps) src x
-unfolding addedWith doubledWith
-both-passes os ps src x =
-    rw (listed-length (length x) (λ b. double (getD x b 0) ⊕ addedAt os src b))
+both-passes : (d : Bool) (os ps src x : List ℕ)
+    → addedWith false ps src (addedWith d os src x) ≡ addedWith d (os ++ ps) src x
+unfolding addedWith
+both-passes d os ps src x =
+    rw (listed-length (length x) (λ b. doubledIf d (getD x b 0) ⊕ addedAt os src b))
     (listed-ext (length x) _ _ (λ b h.
-    ap (λ (z : ℕ). z ⊕ addedAt ps src b) (listed-at (length x) (λ b. double (getD x b 0) ⊕ addedAt os src b) b 0 h)
-    ∙ R.add-assoc _ _ _ ∙ ap (λ (z : ℕ). double (getD x b 0) ⊕ z) (sym (added-append os ps src b))))
+    ap (λ (z : ℕ). z ⊕ addedAt ps src b) (listed-at (length x) (λ b. doubledIf d (getD x b 0) ⊕ addedAt os src b) b 0 h)
+    ∙ R.add-assoc _ _ _ ∙ ap (λ (z : ℕ). doubledIf d (getD x b 0) ⊕ z) (sym (added-append os ps src b))))
 
 -- a pass after others
-pub doubled-more : (os src x : List ℕ) (j : ℕ) (y z : List ℕ) → y ≡ doubledWith (take j os) src x
-    → z ≡ addedWith (take 4 (drop j os)) src y → z ≡ doubledWith (take (j + 4) os) src x
-doubled-more os src x j y z e f =
-    f ∙ ap (addedWith (take 4 (drop j os)) src) e ∙ both-passes (take j os) (take 4 (drop j os)) src x
-    ∙ ap (λ (ps : List ℕ). doubledWith ps src x) (sym (take-add j 4 os))
+pub added-more : (d : Bool) (os src x : List ℕ) (j : ℕ) (y z : List ℕ) → y ≡ addedWith d (take j os) src x
+    → z ≡ addedWith false (take 4 (drop j os)) src y → z ≡ addedWith d (take (j + 4) os) src x
+added-more d os src x j y z e f =
+    f ∙ ap (addedWith false (take 4 (drop j os)) src) e ∙ both-passes d (take j os) (take 4 (drop j os)) src x
+    ∙ ap (λ (ps : List ℕ). addedWith d ps src x) (sym (take-add j 4 os))

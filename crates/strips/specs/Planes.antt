@@ -6,15 +6,15 @@
 -- planeOf i ws src first stride x : one step of the rule: x doubled, and the sources added whose weight has bit i
 -- offsetsOf ds first stride       : the offsets first + q * stride of the sources q whose bit is not 0
 -- addedAt os src b                : the bytes at b past each of the offsets os, summed
--- addedWith os src x              : x with the strips of src at the offsets os added
--- doubledWith os src x            : the same, with x doubled first
+-- doubledIf d v                   : v doubled if d, otherwise v
+-- addedWith d os src x            : x, doubled if d, with the strips of src at the offsets os added
 -- partOf os src j n               : n bytes of src at the offset with number j; zeros where there is no such offset
 -- sumFour v s0 s1 s2 s3 b         : v with the bytes at b of four strips added
--- addedFour x s0 s1 s2 s3         : x with four strips added
--- doubledFour x s0 s1 s2 s3       : the same, with x doubled first
+-- addedFour d x s0 s1 s2 s3       : x, doubled if d, with four strips added
 -- Alike x s0 s1 s2 s3             : the four strips are as long as x
 -- Lent zeros src os n             : what is lent to the passes: a strip of zeros, and n bytes of src at each offset
 use mathlib.Core.Path.{_≡_}
+use mathlib.Core.Bool.{Bool, cond}
 use mathlib.Core.List.{List, [], _∷_, map}
 use Prim.Native.Nat.{ℕ, zero, suc, _+_, _/_, _%_, _^_, _≤_, _<_}
 use lib.ListN.{length, getD, replicate}
@@ -41,11 +41,11 @@ unfoldable pub addedAt : List ℕ → List ℕ → ℕ → ℕ
 addedAt [] src b = 0
 addedAt (o ∷ os) src b = getD src (o + b) 0 ⊕ addedAt os src b
 
-unfoldable pub addedWith : List ℕ → List ℕ → List ℕ → List ℕ
-addedWith os src x = listed (length x) (λ b. getD x b 0 ⊕ addedAt os src b)
+abbrev pub doubledIf : Bool → ℕ → ℕ
+doubledIf d v = cond d (double v) v
 
-unfoldable pub doubledWith : List ℕ → List ℕ → List ℕ → List ℕ
-doubledWith os src x = listed (length x) (λ b. double (getD x b 0) ⊕ addedAt os src b)
+unfoldable pub addedWith : Bool → List ℕ → List ℕ → List ℕ → List ℕ
+addedWith d os src x = listed (length x) (λ b. doubledIf d (getD x b 0) ⊕ addedAt os src b)
 
 -- Where there is no such offset, it is the end of src: past it every byte reads as 0.
 unfoldable pub partOf : List ℕ → List ℕ → ℕ → ℕ → List ℕ
@@ -54,11 +54,8 @@ partOf os src j n = listed n (λ b. getD src (getD os j (length src) + b) 0)
 abbrev pub sumFour : ℕ → List ℕ → List ℕ → List ℕ → List ℕ → ℕ → ℕ
 sumFour v s0 s1 s2 s3 b = v ⊕ getD s0 b 0 ⊕ getD s1 b 0 ⊕ getD s2 b 0 ⊕ getD s3 b 0
 
-unfoldable pub addedFour : List ℕ → List ℕ → List ℕ → List ℕ → List ℕ → List ℕ
-addedFour x s0 s1 s2 s3 = listed (length x) (λ b. sumFour (getD x b 0) s0 s1 s2 s3 b)
-
-unfoldable pub doubledFour : List ℕ → List ℕ → List ℕ → List ℕ → List ℕ → List ℕ
-doubledFour x s0 s1 s2 s3 = listed (length x) (λ b. sumFour (double (getD x b 0)) s0 s1 s2 s3 b)
+unfoldable pub addedFour : Bool → List ℕ → List ℕ → List ℕ → List ℕ → List ℕ → List ℕ
+addedFour d x s0 s1 s2 s3 = listed (length x) (λ b. sumFour (doubledIf d (getD x b 0)) s0 s1 s2 s3 b)
 
 pub record Alike (x s0 s1 s2 s3 : List ℕ) : Type 0 where
   pub same0 : length s0 ≡ length x

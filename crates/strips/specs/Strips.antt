@@ -5,6 +5,7 @@
 -- combinationOf ws src first stride len  : the strip of len such bytes, from sources at first, first + stride, ..
 -- SourcesFit first stride count len size : what `combine` asks: count sources of len bytes lie within size bytes
 -- stripAt x at s                         : the s bytes of x from `at` on
+-- addedBy g at src x                     : x with g of each byte of src added from `at` on
 -- addedScaled c at src x                 : x with c times the bytes of src added from `at` on
 -- addedStrip at src x                    : x with the bytes of src added from `at` on
 -- doubledStrip x                         : twice each byte of x
@@ -33,11 +34,14 @@ unfoldable pub stripAt : List ℕ → ℕ → ℕ → List ℕ
 stripAt x at s = listed s (λ b. getD x (at + b) 0)
 
 -- Adding a strip, or a multiple of it, to the strip of its length that starts at `at`.
+abbrev pub addedBy : (ℕ → ℕ) → ℕ → List ℕ → List ℕ → List ℕ
+addedBy g at src x = patched at (length src) (λ b. getD x (at + b) 0 ⊕ g (getD src b 0)) x
+
 unfoldable pub addedScaled : ℕ → ℕ → List ℕ → List ℕ → List ℕ
-addedScaled c at src x = patched at (length src) (λ b. getD x (at + b) 0 ⊕ (c ⊗ getD src b 0)) x
+addedScaled c at src x = addedBy (λ v. c ⊗ v) at src x
 
 unfoldable pub addedStrip : ℕ → List ℕ → List ℕ → List ℕ
-addedStrip at src x = patched at (length src) (λ b. getD x (at + b) 0 ⊕ getD src b 0) x
+addedStrip at src x = addedBy (λ v. v) at src x
 
 unfoldable pub doubledStrip : List ℕ → List ℕ
 doubledStrip x = listed (length x) (λ b. double (getD x b 0))

@@ -1,41 +1,14 @@
 // What is done to whole strips. No table is read here: the loops over bytes hold shifts, comparisons and exclusive ors
 // alone.
 ghost use mathlib.Core.Path.{_≡_};
+ghost use mathlib.Core.Bool.{true};
 ghost use Prim.Native.Nat.{ℕ, _+_, _*_, _%_, _^_, _<_, _≤_};
 ghost use lib.ListN.{length, take, drop, replicate};
-ghost use Rattle.gf256.specs.Field.{_⊗_, double};
 ghost use Rattle.lists.specs.Listed.{listed};
 ghost use Rattle.strips.specs.Strips.{combinationOf, SourcesFit, stripAt};
 ghost use Rattle.strips.specs.Strips.{addedScaled, addedStrip, doubledStrip};
-ghost use Rattle.strips.specs.Planes.{bitsAt, planeOf, offsetsOf, addedWith, doubledWith};
-ghost use Rattle.strips.specs.Planes.{partOf, addedFour, doubledFour, Alike, Lent};
-
-// The product with 2.
-fn twice(a: u8) -> u8
-    ensures { λ r. ⌜ r ≡ double a ⌝ }
-{
-    let r: u8 = if a >= 128 { 0x1D } else { 0 };
-    (a << 1) ^ r
-}
-
-// The product, by the bits of s: a form that the compiler turns into vectors.
-fn times(c: u8, s: u8) -> u8
-    ensures { λ r. ⌜ r ≡ c ⊗ s ⌝ }
-{
-    let mut r: u8 = 0;
-    let mut x = c;
-    let mut y = s;
-    let mut n: usize = 8;
-    while n > 0 {
-        if (y & 1) == 1 {
-            r = r ^ x;
-        }
-        x = twice(x);
-        y = y >> 1;
-        n -= 1;
-    }
-    r
-}
+ghost use Rattle.strips.specs.Planes.{bitsAt, planeOf, offsetsOf, doubledIf, addedWith};
+ghost use Rattle.strips.specs.Planes.{partOf, addedFour, Alike, Lent};
 
 // Copies the strip of src that starts at `at`.
 pub fn copy(dst: &mut [u8], src: &[u8], at: usize)
@@ -68,7 +41,7 @@ pub fn add_scaled(x: &mut [u8], at: usize, src: &[u8], c: u8)
 {
     let mut b: usize = 0;
     while b < src.len() {
-        x[at + b] = x[at + b] ^ times(c, src[b]);
+        x[at + b] = x[at + b] ^ gf256::times(c, src[b]);
         b += 1;
     }
 }
@@ -79,7 +52,7 @@ fn double_strip(strip: &mut [u8])
 {
     let mut b: usize = 0;
     while b < strip.len() {
-        strip[b] = twice(strip[b]);
+        strip[b] = gf256::twice(strip[b]);
         b += 1;
     }
 }
@@ -125,28 +98,25 @@ pub fn fill(dst: &mut [u8], value: u8)
     }
 }
 
-// Adds four strips.
-fn add_four(dst: &mut [u8], s0: &[u8], s1: &[u8], s2: &[u8], s3: &[u8])
-    requires { ⌜ Alike (now dst) (now s0) (now s1) (now s2) (now s3) ⌝ }
-    ensures { λ _. ⌜ now (dst .exit)
-        ≡ addedFour (now (dst .entry)) (now (s0 .entry)) (now (s1 .entry)) (now (s2 .entry)) (now (s3 .entry)) ⌝ }
+// Twice the byte if that is asked, otherwise the byte.
+fn doubled_if(v: u8, doubled: bool) -> u8
+    ensures { λ r. ⌜ r ≡ doubledIf doubled v ⌝ }
 {
-    let mut b: usize = 0;
-    while b < dst.len() {
-        dst[b] = dst[b] ^ s0[b] ^ s1[b] ^ s2[b] ^ s3[b];
-        b += 1;
+    if doubled {
+        return gf256::twice(v);
     }
+    v
 }
 
-// Doubles a strip and adds four.
-fn double_add_four(dst: &mut [u8], s0: &[u8], s1: &[u8], s2: &[u8], s3: &[u8])
+// Adds four strips to a strip, which is doubled first if that is asked.
+fn add_four(dst: &mut [u8], s0: &[u8], s1: &[u8], s2: &[u8], s3: &[u8], doubled: bool)
     requires { ⌜ Alike (now dst) (now s0) (now s1) (now s2) (now s3) ⌝ }
-    ensures { λ _. ⌜ now (dst .exit)
-        ≡ doubledFour (now (dst .entry)) (now (s0 .entry)) (now (s1 .entry)) (now (s2 .entry)) (now (s3 .entry)) ⌝ }
+    ensures { λ _. ⌜ now (dst .exit) ≡ addedFour doubled (now (dst .entry))
+        (now (s0 .entry)) (now (s1 .entry)) (now (s2 .entry)) (now (s3 .entry)) ⌝ }
 {
     let mut b: usize = 0;
     while b < dst.len() {
-        dst[b] = twice(dst[b]) ^ s0[b] ^ s1[b] ^ s2[b] ^ s3[b];
+        dst[b] = doubled_if(dst[b], doubled) ^ s0[b] ^ s1[b] ^ s2[b] ^ s3[b];
         b += 1;
     }
 }
@@ -189,52 +159,39 @@ fn part<'a>(
     &zeros[..n]
 }
 
-// The first pass over a plane: doubles, and adds the first four sources.
-fn double_first<'a>(dst: &mut [u8], src: &'a [u8], zeros: &'a [u8], at: &[usize], count: usize)
-    requires { ⌜ Lent (now zeros) (now src) (take count (now at)) (length (now dst)) × (count ≤ length (now at)) ⌝ }
-    ensures { λ _. ⌜ now (dst .exit)
-        ≡ doubledWith (take 4 (take count (now (at .entry)))) (now (src .entry)) (now (dst .entry)) ⌝ }
-{
-    let n = dst.len();
-    let s0 = part(src, zeros, at, count, 0, n);
-    let s1 = part(src, zeros, at, count, 1, n);
-    let s2 = part(src, zeros, at, count, 2, n);
-    let s3 = part(src, zeros, at, count, 3, n);
-    double_add_four(dst, s0, s1, s2, s3);
-}
-
-// A later pass: adds the four sources from number j on.
-fn add_next<'a>(
+// A pass over a plane: adds the four sources from number j on; the first pass doubles.
+fn pass<'a>(
     dst: &mut [u8],
     src: &'a [u8],
     zeros: &'a [u8],
     at: &[usize],
     count: usize,
     j: usize,
+    doubled: bool,
 )
     requires { ⌜ Lent (now zeros) (now src) (take count (now at)) (length (now dst))
-        × (count ≤ length (now at)) × (j < count) ⌝ }
+        × (count ≤ length (now at)) × (j ≤ count) ⌝ }
     ensures { λ _. ⌜ now (dst .exit)
-        ≡ addedWith (take 4 (drop j (take count (now (at .entry))))) (now (src .entry)) (now (dst .entry)) ⌝ }
+        ≡ addedWith doubled (take 4 (drop j (take count (now (at .entry))))) (now (src .entry)) (now (dst .entry)) ⌝ }
 {
     let n = dst.len();
     let s0 = part(src, zeros, at, count, j, n);
     let s1 = part(src, zeros, at, count, j + 1, n);
     let s2 = part(src, zeros, at, count, j + 2, n);
     let s3 = part(src, zeros, at, count, j + 3, n);
-    add_four(dst, s0, s1, s2, s3);
+    add_four(dst, s0, s1, s2, s3, doubled);
 }
 
 // Doubles dst and adds the sources that were gathered, four in a pass.
 fn double_add<'a>(dst: &mut [u8], src: &'a [u8], zeros: &'a [u8], at: &[usize], count: usize)
     requires { ⌜ Lent (now zeros) (now src) (take count (now at)) (length (now dst)) × (count ≤ length (now at)) ⌝ }
     ensures { λ _. ⌜ now (dst .exit)
-        ≡ doubledWith (take count (now (at .entry))) (now (src .entry)) (now (dst .entry)) ⌝ }
+        ≡ addedWith true (take count (now (at .entry))) (now (src .entry)) (now (dst .entry)) ⌝ }
 {
-    double_first(dst, src, zeros, at, count);
+    pass(dst, src, zeros, at, count, 0, true);
     let mut j: usize = 4;
     while j < count {
-        add_next(dst, src, zeros, at, count, j);
+        pass(dst, src, zeros, at, count, j, false);
         j += 4;
     }
 }

@@ -6,9 +6,8 @@ use native.Mathlib.Omega.{arith}
 use borrow.Author.Needs.{needs}
 use lib.ListN.{length}
 use lib.Seq.{length-take-le}
-use Rattle.lists.proofs.Patched.{patched-length}
 use Rattle.lists.proofs.Lent.{front-fits, front}
-use Rattle.strips.specs.Strips.{stripAt, addedScaled, addedStrip}
+use Rattle.strips.specs.Strips.{stripAt, addedScaled}
 use Rattle.strips.proofs.Strip.{strip-length}
 use Rattle.coupling.proofs.Changed.{both-added}
 use Rattle.coupling.proofs.couple_pair.Statement.{statement}
@@ -76,10 +75,6 @@ add-requires : tie.Need-add-requires
 add-requires c κs =
     omega (arith, slice-aggregate-add c, (start (c .before .before .before)) .pre)
 
-added-length : (at : ℕ) (src x : List ℕ) → length (addedStrip at src x) ≡ length x
-unfolding addedStrip
-added-length at src x = patched-length at (length src) _ x
-
 array-borrow-prefix-u-2 : tie.Need-array-borrow-prefix-u-2
 array-borrow-prefix-u-2 c =
     let w = c .before .before .before .before .before .before .before in
@@ -92,8 +87,7 @@ add-multiple-requires : tie.Need-add-multiple-requires
 add-multiple-requires c κs =
     let added = c .before .before .before .before in
     let w = added .before .before .before .before in
-    let same = ap length (added .add .ensures) ∙ added-length _ _ (x w) in
-    omega (arith, slice-aggregate-add-multiple c, same, (start w) .pre)
+    omega (arith, slice-aggregate-add-multiple c, added .add .kept, (start w) .pre)
 
 same-length : tie.Need-same-length
 same-length c = search needs

@@ -1,14 +1,15 @@
 -- `strips::double_add` meets its contract. The invariant: dst is x doubled with the first j sources added, for
 -- any x of which it was the double with the first four when the loop began.
 use mathlib.Core.Path.{_≡_, refl, ap, _∙_}
+use mathlib.Core.Bool.{true}
 use mathlib.Core.List.{List}
 use Prim.Native.Nat.{ℕ, _-_}
 use native.Mathlib.Omega.{arith}
 use lib.ListN.{length, take}
 use lib.Seq.{take-all, length-take-le}
 use borrow.Author.Needs.{needs}
-use Rattle.strips.specs.Planes.{Lent, doubledWith}
-use Rattle.strips.proofs.Passes.{doubled-more}
+use Rattle.strips.specs.Planes.{Lent, addedWith}
+use Rattle.strips.proofs.Passes.{added-more}
 use Rattle.strips.proofs.double_add.Statement.{statement}
 use Rattle.strips.proofs.double_add.Tie as tie
 
@@ -18,22 +19,22 @@ same-size zeros src os m n e lent = rw e lent
 abbrev Inv-loop : tie.InvT-loop
 Inv-loop dst₀ src zeros at count j₀ dst j =
     (length dst ≡ length dst₀)
-    × ((x : List ℕ) → dst₀ ≡ doubledWith (take 4 (take count at)) src x
-    → dst ≡ doubledWith (take j (take count at)) src x)
+    × ((x : List ℕ) → dst₀ ≡ addedWith true (take 4 (take count at)) src x
+    → dst ≡ addedWith true (take j (take count at)) src x)
 
 abbrev μ-loop : tie.MeasureT-loop
 μ-loop dst₀ src zeros at count j₀ dst j = count - j
 
-double-first-requires : tie.Need-double-first-requires Inv-loop μ-loop
-double-first-requires c κs = search needs
+pass-requires : tie.Need-pass-requires Inv-loop μ-loop
+pass-requires c κs = search needs
 
 loop-holds : tie.Need-loop-holds Inv-loop μ-loop
 loop-holds c = (refl, λ x e. e)
 
-add-next-requires : tie.Need-add-next-requires Inv-loop μ-loop
-add-next-requires c κs =
+pass-requires-2 : tie.Need-pass-requires-2 Inv-loop μ-loop
+pass-requires-2 c κs =
     let s = c .before .before .before .before .before .before .before .before .before .before .before in
-    (same-size _ _ _ _ _ (omega arith) (s .pre .0), s .pre .1, c .before .loop-test .taken)
+    (same-size _ _ _ _ _ (omega arith) (s .pre .0), s .pre .1, omega (arith, c .before .loop-test .taken))
 
 add-j : tie.Need-add-j Inv-loop μ-loop
 add-j c =
@@ -49,9 +50,9 @@ loop-again c =
     let w = c .before .before .before .before .before in
     let l = w .loop in
     let g = w .before .before .before .before .before .before .before .before .before .args in (
-      c .before .before .add-next .kept .0 ∙ l .inv .0,
-      λ x e. doubled-more (take (g .count) (g .at .now)) (g .src .now) x (l .j) (l .dst) _ (l .inv .1 x e)
-          (c .before .before .add-next .ensures),
+      c .before .before .pass2 .kept .0 ∙ l .inv .0,
+      λ x e. added-more true (take (g .count) (g .at .now)) (g .src .now) x (l .j) (l .dst) _ (l .inv .1 x e)
+          (c .before .before .pass2 .ensures),
     )
 
 same-length : tie.Need-same-length Inv-loop μ-loop
@@ -63,8 +64,8 @@ returns c =
     let s = c .before .before .before .before .before .before .before .before .before .before in
     let g = s .args in
     let os = take (g .count) (g .at .now) in
-    l .inv .1 (g .dst .now) (c .before .before .before .before .double-first .ensures)
-    ∙ ap (λ (ps : List ℕ). doubledWith ps (g .src .now) (g .dst .now))
+    l .inv .1 (g .dst .now) (c .before .before .before .before .pass .ensures)
+    ∙ ap (λ (ps : List ℕ). addedWith true ps (g .src .now) (g .dst .now))
     (take-all (l .j) os (omega (arith, length-take-le (g .count) (g .at .now) (s .pre .1))))
 
 pub double-add-spec : {M : Type 1} → statement M
@@ -73,9 +74,9 @@ double-add-spec =
     (tie.spec
     Inv-loop
     μ-loop
-    double-first-requires
+    pass-requires
     loop-holds
-    add-next-requires
+    pass-requires-2
     add-j
     loop-less
     loop-again

@@ -1,11 +1,11 @@
--- `strips::twice` meets its contract.
+-- `gf256::twice` meets its contract.
 use mathlib.Core.Path.{_≡_, ap}
 use mathlib.Core.Logic.{⊎-elim}
 use Prim.Native.Nat.{ℕ, _*_, _/_, _%_}
 use native.Mathlib.Omega.{arith}
 use Rattle.gf256.specs.Field.{double, _⊕_}
-use Rattle.strips.proofs.twice.Statement.{statement}
-use Rattle.strips.proofs.twice.Tie as tie
+use Rattle.gf256.proofs.twice.Statement.{statement}
+use Rattle.gf256.proofs.twice.Tie as tie
 
 returns : tie.Need-returns
 unfolding double _⊕_
