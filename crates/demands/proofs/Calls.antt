@@ -1,7 +1,6 @@
 -- What a table of refusals says of a call that tries its tests in order: `call-of`, once for all calls, over the list
 -- of its tests. Profile.antt has the case of a call that is given a profile's numbers.
 --
--- never-zero                   : no refusal has the number 0
 -- tried-stops, tried-through   : a call, whatever it answers: the first of its table is given; where no line holds, all
 --                                its tests are tried in vain
 -- Unrefused table outcome done : what is known of a call where it is not refused
@@ -13,11 +12,11 @@ use mathlib.Core.List.{List}
 use Prim.Native.Nat.{ℕ}
 use native.Mathlib.Omega.{arith}
 use Rattle.document.specs.declared.Refusal.{Refusal}
-use Rattle.document.specs.declared.Refusal.the-variants as refusals
 use Rattle.document.specs.declared.Answer.{Answer}
 use Rattle.document.specs.declared.Answer.the-variants.{Done, Refused}
-use Rattle.document.specs.Refusals.{numberOf, answerNumber, Test, tried}
+use Rattle.document.specs.Refusals.{answerNumber, Test, tried}
 use Rattle.document.proofs.Decides.{decides-false}
+use Rattle.document.proofs.Refusals.{never-zero}
 use Rattle.document.proofs.Tried.{tried-holds, tried-not}
 use Rattle.demands.specs.Tables.{
   Sentence,
@@ -32,19 +31,6 @@ use Rattle.demands.specs.Tables.{
   Demand1Of,
 }
 use Rattle.demands.proofs.Tables.{Holds, no-line, and-line, held, NoneHolds, FirstOrNone, first-or-none}
-
-pub never-zero : (r : Refusal) → numberOf r ≡ 0 → ⊥
-unfolding numberOf
-never-zero refusals.Shape e = omega arith
-never-zero refusals.Constant e = omega arith
-never-zero refusals.StripLength e = omega arith
-never-zero refusals.OutOfRange e = omega arith
-never-zero refusals.BufferLength e = omega arith
-never-zero refusals.BundleForm e = omega arith
-never-zero refusals.BundleHead e = omega arith
-never-zero (refusals.Misplaced i) e = omega arith
-never-zero (refusals.Stale i) e = omega arith
-never-zero refusals.Ambiguous e = omega arith
 
 -- ---- a call, whatever it answers
 module _ {X : Type 0} (refuse : Refusal → X) (x : X) where

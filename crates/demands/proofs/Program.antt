@@ -11,13 +11,13 @@ use Rattle.document.specs.declared.Answer.{Answer}
 use Rattle.document.specs.declared.Answer.the-variants.{Done, Refused}
 use Rattle.document.specs.Refusals.{numberOf, answerNumber}
 use Rattle.document.specs.Program.{lineOf, outputOf, programOf}
+use Rattle.document.proofs.Refusals.{never-zero}
 use Rattle.demands.specs.Profile.{profileSentences}
 use Rattle.demands.specs.Message.{stripSentences, messageSentences}
 use Rattle.demands.specs.Bundle.{bundleSentences}
 use Rattle.demands.specs.Rebuild.{rebuildSentences}
 use Rattle.demands.specs.Program.{wanted, lent, table, Demand1Program}
 use Rattle.demands.proofs.Tables.{first-holds, Only, held, line-by-line}
-use Rattle.demands.proofs.Calls.{never-zero}
 use Rattle.demands.proofs.Rebuild.{demand-1-rebuild}
 
 -- ---- the output, by the answer

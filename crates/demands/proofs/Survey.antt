@@ -26,6 +26,7 @@ use Rattle.document.proofs.Decides.{decides-le, decides-lt, decides-eq, decides
 use Rattle.document.proofs.Accepts.{one-list, on-accepted-map, on-accepted-same}
 use Rattle.document.proofs.Tried.{tried-map}
 use Rattle.document.proofs.Surveys.{decides-fails, by-result}
+use Rattle.document.proofs.Refusals.{never-zero}
 use Rattle.demands.specs.Tables.{Sentence, Decided, none, line}
 use Rattle.demands.specs.Profile.{profileSentences}
 use Rattle.demands.specs.Survey.{
@@ -54,7 +55,7 @@ use Rattle.demands.proofs.Tables.{
   FirstOrNone,
   first-or-none,
 }
-use Rattle.demands.proofs.Calls.{never-zero, tried-stops, tried-through}
+use Rattle.demands.proofs.Calls.{tried-stops, tried-through}
 use Rattle.demands.proofs.Profile.{accepted-none, past-profile, profile-decided, call-for}
 use Rattle.demands.proofs.Reading.{read-refused, read-answered}
 use Rattle.demands.proofs.Results.{result-tells, join-failing, join-done, join-open}

@@ -1,5 +1,6 @@
 pub mod Bytes
 pub mod Decides
+pub mod Refusals
 pub mod Accepts
 pub mod Bounds
 pub mod Arrays
