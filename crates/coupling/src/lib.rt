@@ -13,7 +13,7 @@ use document::Row;
 
 // Couples the upper strip of a pair with the lower one, which lies before it in memory. Both are copied out first, so
 // that each loop reads the partner from another slice than the one it writes; the upper strip's copy is used up.
-pub fn couple_pair(x: &mut [u8], upper: usize, lower: usize, s: usize, t: u8)
+fn couple_pair(x: &mut [u8], upper: usize, lower: usize, s: usize, t: u8)
     requires { ⌜ (s ≤ 512) × (lower + s ≤ upper) × (upper + s ≤ length (now x)) ⌝ }
     ensures { λ _. ⌜ now (x .exit) ≡ coupledStrips t upper lower s (now (x .entry)) ⌝ }
 {

@@ -15,7 +15,7 @@ use Rattle.document.specs.declared.Profile.{Profile}
 use Rattle.document.specs.declared.Place.{Place}
 use Rattle.document.specs.declared.Recording.{Recording}
 use Rattle.document.specs.declared.Refusal.{Refusal}
-use Rattle.document.specs.declared.Refusal.the-variants.{BundleForm, BundleHead, Misplaced, Stale}
+use Rattle.document.specs.declared.Refusal.the-variants.{Form, Head, Misplaced, Stale}
 use Rattle.document.specs.Refusals.{numberOf, indexOf, Decides}
 use Rattle.document.specs.Places.{place, placeAt}
 use Rattle.document.specs.Message.{
@@ -188,8 +188,8 @@ module _ (p : Profile) (content : List ℕ) (r : Recording) (qs : List Place) (b
     pub refuted-wanted : AsWanted
     unfolding messageSentences stripSentences recordingBytes
     refuted-wanted = record {
-      is-formed = decided _ decides-formed (λ n. refuted BundleForm (search by-name));
-      is-headed = decided _ decides-headed (λ n. refuted BundleHead (search by-name));
+      is-formed = decided _ decides-formed (λ n. refuted Form (search by-name));
+      is-headed = decided _ decides-headed (λ n. refuted Head (search by-name));
       is-placed = λ i l. place-is p m b i ∙ decided _ (decides-placed i) (λ n. refuted (Misplaced i) (search by-name));
       is-fresh = λ i l. scenario-is p m b i ∙ decided _ (decides-fresh i) (λ n. refuted (Stale i) (search by-name));
     }

@@ -21,7 +21,7 @@ use Rattle.fields.specs.Fields.{twoBytes, fourBytes}
 use Rattle.document.specs.declared.Profile.{Profile}
 use Rattle.document.specs.declared.Place.{Place}
 use Rattle.document.specs.declared.Recording.{Recording}
-use Rattle.document.specs.declared.Refusal.the-variants.{BundleForm, BundleHead, Misplaced, Stale}
+use Rattle.document.specs.declared.Refusal.the-variants.{Form, Head, Misplaced, Stale}
 use Rattle.document.specs.Places.{place, placeAt}
 use Rattle.demands.specs.Tables.{Sentence}
 
@@ -64,6 +64,6 @@ stripSentences p m r qs b =
 -- 6: '.. differ from those of the wanted profile and node'. 7: '.. differs from what is wanted'.
 unfoldable pub messageSentences : Profile → List ℕ → Recording → List Place → List ℕ → List Sentence
 messageSentences p content r qs b =
-    record { refusal = BundleForm; says = Formed p (length content) (length qs) b → ⊥ }
-    ∷ record { refusal = BundleHead; says = Headed p content b → ⊥ }
+    record { refusal = Form; says = Formed p (length content) (length qs) b → ⊥ }
+    ∷ record { refusal = Head; says = Headed p content b → ⊥ }
     ∷ stripSentences p (length content) r qs b

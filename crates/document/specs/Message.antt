@@ -40,7 +40,7 @@ use Rattle.fields.specs.Fields.{twoBytes, fourBytes, opening, openingLength, fi
 use Rattle.document.specs.declared.Profile.{Profile}
 use Rattle.document.specs.declared.Place.{Place}
 use Rattle.document.specs.declared.Recording.{Recording}
-use Rattle.document.specs.declared.Refusal.the-variants.{BundleForm, BundleHead, Misplaced, Stale}
+use Rattle.document.specs.declared.Refusal.the-variants.{Form, Head, Misplaced, Stale}
 use Rattle.document.specs.Refusals.{Test}
 use Rattle.document.specs.Places.{place, samePlace, placeAt}
 
@@ -133,7 +133,7 @@ headed p content b =
 unfoldable pub messageTests : Profile → List ℕ → Recording → List Place → List ℕ → List Test
 messageTests p content r qs b =
     let at : ℕ → ℕ = stripFieldStart p (length content) in
-    record { refusal = BundleForm; holds = not (formed p (length content) (length qs) b) }
-    ∷ record { refusal = BundleHead; holds = not (headed p content b) }
+    record { refusal = Form; holds = not (formed p (length content) (length qs) b) }
+    ∷ record { refusal = Head; holds = not (headed p content b) }
     ∷ (listed (length qs) (λ i. record { refusal = Misplaced i; holds = not (placed (placeAt qs i) b (at i)) })
     ++ listed (length qs) (λ i. record { refusal = Stale i; holds = not (fresh r b (at i)) }))

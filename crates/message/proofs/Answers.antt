@@ -9,7 +9,7 @@ use Rattle.lists.specs.Listed.{listed}
 use Rattle.document.specs.declared.Profile.{Profile}
 use Rattle.document.specs.declared.Place.{Place}
 use Rattle.document.specs.declared.Recording.{Recording}
-use Rattle.document.specs.declared.Refusal.the-variants.{BundleForm, BundleHead, Misplaced, Stale}
+use Rattle.document.specs.declared.Refusal.the-variants.{Form, Head, Misplaced, Stale}
 use Rattle.document.specs.declared.Answer.{Answer}
 use Rattle.document.specs.declared.Answer.the-variants.{Done, Refused}
 use Rattle.document.specs.Refusals.{Test, tried}
@@ -42,7 +42,7 @@ module _ (p : Profile) (content : List ℕ) (r : Recording) (places b : List ℕ
   abbrev staleLine : ℕ → Test
   staleLine i = record { refusal = Stale i; holds = not (freshAt i) }
 
-  pub form-refused : formed p (length content) count b ≡ false → Refused BundleForm ≡ answer
+  pub form-refused : formed p (length content) count b ≡ false → Refused Form ≡ answer
   unfolding messageTests
   form-refused e =
       let not-formed : formed p (length content) (length qs) b ≡ false = rw places-length e in
@@ -52,7 +52,7 @@ module _ (p : Profile) (content : List ℕ) (r : Recording) (places b : List ℕ
     past-form : formed p (length content) (length qs) b ≡ true
     past-form = rw places-length form
 
-    pub head-refused : headed p content b ≡ false → Refused BundleHead ≡ answer
+    pub head-refused : headed p content b ≡ false → Refused Head ≡ answer
     unfolding messageTests
     head-refused e = sym (tried-not Refused _ _ _ (ap not past-form) ∙ tried-holds Refused _ _ _ (ap not e))
 

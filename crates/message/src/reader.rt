@@ -143,10 +143,10 @@ pub fn check(p: Profile, content: &[u8], r: Recording, places: &[u8], b: &[u8]) 
     let m = content.len();
     let count = places.len() / 2;
     if !formed(p, m, count, b) {
-        return Answer::Refused(Refusal::BundleForm);
+        return Answer::Refused(Refusal::Form);
     }
     if !headed(p, content, b) {
-        return Answer::Refused(Refusal::BundleHead);
+        return Answer::Refused(Refusal::Head);
     }
     let misplaced = first_misplaced(p, m, places, b);
     if misplaced < count {

@@ -13,7 +13,7 @@ use Rattle.document.specs.declared.Numbers.{Numbers}
 use Rattle.document.specs.declared.Profile.{Profile}
 use Rattle.document.specs.declared.Node.{Node}
 use Rattle.document.specs.declared.Recording.{Recording}
-use Rattle.document.specs.declared.Refusal.the-variants.{OutOfRange, BufferLength, BundleForm}
+use Rattle.document.specs.declared.Refusal.the-variants.{OutOfRange, BufferLength, Form}
 use Rattle.document.specs.Refusals.{Test, tried}
 use Rattle.document.specs.Profile.{Accepted, profileOf}
 use Rattle.document.specs.Plan.{planned}
@@ -48,10 +48,10 @@ form-refused : (node lent form₁ form₂ : Bool) (ts us : List Test) (x y : Lis
     → (node ≡ true → (form₁ ≡ false) × (form₂ ≡ false))
     → tried
     (record { refusal = OutOfRange; holds = not node } ∷ record { refusal = BufferLength; holds = lent }
-    ∷ record { refusal = BundleForm; holds = not form₁ } ∷ ts) lineOf x
+    ∷ record { refusal = Form; holds = not form₁ } ∷ ts) lineOf x
     ≡ tried
     (record { refusal = OutOfRange; holds = not node } ∷ record { refusal = BufferLength; holds = lent }
-    ∷ record { refusal = BundleForm; holds = not form₂ } ∷ us) lineOf y
+    ∷ record { refusal = Form; holds = not form₂ } ∷ us) lineOf y
 unfolding tried
 form-refused false lent form₁ form₂ ts us x y h = refl
 form-refused true true form₁ form₂ ts us x y h = refl
