@@ -11,7 +11,7 @@ use lib.ListN.{length-replicate, length-take, length-set, getD-replicate, List·
 use lib.Seq.{ext-getD}
 use borrow.Author.Tests.{lt-ltb, le-ltb, ltb-false, eq-eqb, ne-eqb}
 use Rattle.lists.specs.Listed.{listed}
-use Rattle.lists.proofs.Listed.{listed-length, listed-at}
+use Rattle.lists.proofs.Listed.{listed-length, listed-at, listed-holds, replicate-holds}
 use Rattle.lists.proofs.Put.{wrote-front}
 use Rattle.lists.proofs.Rising.{rising-length}
 use Rattle.ksets.specs.Sets.{Rising}
@@ -53,12 +53,6 @@ use Rattle.half_pairs.specs.HalfPairs.{
   HalfPairsOf,
 }
 use Rattle.half_pairs.proofs.Symbols.{U, inverse-clear, kernel-ambiguous}
-
--- an entry of a list that repeats one thing, or of nothing past its end
-repeated {ℓ} : {X : Type ℓ} (P : X → Type 0) (n i : ℕ) (v d : X) → P v → P d → P (getD (replicate n v) i d)
-repeated P zero i v d a b = b
-repeated P (suc n) zero v d a b = a
-repeated P (suc n) (suc i) v d a b = repeated P n i v d a b
 
 -- a line of zeros
 abbrev blank : Line
@@ -178,20 +172,13 @@ module _ (p : Profile) (nodes : List ℕ) where
   -- each entry is a byte, a missing one too
   line-small : (e f : ℕ) → getD (systemLine p nodes e) f 0 < 256
   unfolding systemLine
-  line-small e f = go (decLt f 80)
+  line-small e =
+      listed-holds (λ (v : ℕ). v < 256) 0 (omega arith) 80 (λ f. cond (ltb f (U p nodes)) (number (systemAt p nodes e f)) 0)
+      (λ f. byte-or-none (ltb f (U p nodes)) f)
     where
-      entryAt : ℕ → ℕ
-      entryAt f = cond (ltb f (U p nodes)) (number (systemAt p nodes e f)) 0
-
-      byte-or-none : (b : Bool) → cond b (number (systemAt p nodes e f)) 0 < 256
-      byte-or-none true = number-lt _
-      byte-or-none false = omega arith
-
-      go : Dec (f < 80) → getD (listed 80 entryAt) f 0 < 256
-      go (yes h) = rw (listed-at 80 entryAt f 0 h) (byte-or-none (ltb f (U p nodes)))
-      go (no h) =
-          let short : length (listed 80 entryAt) ≤ f = omega (arith, listed-length 80 entryAt) in
-          rw (List·getD-eq-default (listed 80 entryAt) 0 short) (omega arith)
+      byte-or-none : (b : Bool) (f : ℕ) → cond b (number (systemAt p nodes e f)) 0 < 256
+      byte-or-none true f = number-lt _
+      byte-or-none false f = omega arith
 
   square-small : U p nodes ≤ 80 → (e f : ℕ) → entry (systemSquare p nodes) e f < 256
   unfolding systemSquare
@@ -206,8 +193,8 @@ module _ (p : Profile) (nodes : List ℕ) where
           subst Small
           (sym (ap (λ (l : Line). l .c)
           (filled-rest made (replicate 80 blank) (U p nodes) e noLine (omega arith))))
-          (repeated (λ l. Small (l .c)) 80 e blank noLine (repeated (λ v. v < 256) 80 f 0 0 (omega arith) (omega arith))
-          (omega arith))
+          (replicate-holds (λ (l : Line). Small (l .c)) noLine (omega arith) 80 blank
+          (replicate-holds (λ (v : ℕ). v < 256) 0 (omega arith) 80 0 (omega arith) f) e)
 
   pub system-shaped : U p nodes ≤ 80 → Shaped (U p nodes) (U p nodes) (systemSquare p nodes)
   unfolding systemSquare
