@@ -1,5 +1,5 @@
-// The download bundle: the message with the lost node and the recording in field 02, and the planned places. Written from a
-// stored array, and compared by a reader with what is wanted.
+// The download bundle: the message with the lost node and the recording in field 02, and the planned places. Written
+// from a stored array, and compared by a reader with what is wanted.
 ghost use mathlib.Core.Path.{_≡_};
 ghost use Prim.Native.Nat.{_*_, _<_};
 ghost use lib.ListN.{length};

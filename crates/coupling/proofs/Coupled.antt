@@ -15,7 +15,7 @@ use Rattle.document.specs.Bytes.{byte, number}
 use Rattle.document.specs.Encoding.{start, byteAt, constantOf, coupledAt, coupled}
 use Rattle.document.proofs.Bytes.{number-byte, number-add, number-mul}
 use Rattle.document.proofs.Arrays.{laid-only, coupled-diagonal, coupled-upper, coupled-lower}
-use Rattle.coupling.specs.Pairs.{partnerStrip, pairChanged, coupledStrips, coupledByte, pairCoupled}
+use Rattle.coupling.specs.Pairs.{partnerNumber, pairChanged, coupledStrips, coupledByte, pairCoupled}
 use Rattle.coupling.proofs.Pairs.{old, new, Mixed, all-changed}
 
 module _ (p : Profile) where
@@ -41,7 +41,7 @@ module _ (p : Profile) where
   -- an upper strip and its partner, coupled
   pub upper-pair : (z : ℕ) → z % A < z / A % A → (x : List ℕ) {y : List ℕ} {t upper lower : ℕ}
       → y ≡ coupledStrips t upper lower S x
-      → t ≡ number (constantOf p (z / A % A) (z % A)) → upper ≡ z * S → lower ≡ partnerStrip A z * S
+      → t ≡ number (constantOf p (z / A % A) (z % A)) → upper ≡ z * S → lower ≡ partnerNumber A z * S
       → y ≡ pairCoupled p z x
   unfolding pairChanged
   upper-pair z h x e k u l =
@@ -55,17 +55,17 @@ module _ (p : Profile) where
           ap (λ (m : ℕ). number (byte (getD x (m * S + b) 0))) (div-add-mod' z A)
           ∙ number-byte (getD x (z * S + b) 0) (small (z * S + b))
 
-      partner-byte : number (byteAt p x b (place (z / A / A * A + z % A) (z / A % A))) ≡ old p x (partnerStrip A z) b
+      partner-byte : number (byteAt p x b (place (z / A / A * A + z % A) (z / A % A))) ≡ old p x (partnerNumber A z) b
       unfolding byteAt start
-      partner-byte = number-byte (getD x (partnerStrip A z * S + b) 0) (small (partnerStrip A z * S + b))
+      partner-byte = number-byte (getD x (partnerNumber A z * S + b) 0) (small (partnerNumber A z * S + b))
 
       -- byte b of strip z, coupled
       coupled-byte : new p (coupledByte p) x z b ≡ number (coupledAt p (byteAt p x b) (place (z / A) (z % A)))
       coupled-byte = go (decLt (z % A) (z / A % A)) (decLt (z / A % A) (z % A))
         where
           at : (f : ℕ → ℕ → ℕ) → coupledByte p (z % A) (z / A % A) ≡ f
-              → new p (coupledByte p) x z b ≡ f (old p x z b) (old p x (partnerStrip A z) b)
-          at f e = ap (λ (g : ℕ → ℕ → ℕ). g (old p x z b) (old p x (partnerStrip A z) b)) e
+              → new p (coupledByte p) x z b ≡ f (old p x z b) (old p x (partnerNumber A z) b)
+          at f e = ap (λ (g : ℕ → ℕ → ℕ). g (old p x z b) (old p x (partnerNumber A z) b)) e
 
           go : Dec (z % A < z / A % A) → Dec (z / A % A < z % A)
               → new p (coupledByte p) x z b ≡ number (coupledAt p (byteAt p x b) (place (z / A) (z % A)))

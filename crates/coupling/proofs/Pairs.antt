@@ -14,7 +14,7 @@ use Rattle.document.specs.declared.Profile.{Profile}
 use Rattle.document.specs.Profile.{Accepted}
 use Rattle.document.specs.Places.{place}
 use Rattle.document.proofs.Bounds.{A>0, room, place-within, partner-within, strip-number}
-use Rattle.coupling.specs.Pairs.{partnerStrip, Change, changedStrips, pairChanged}
+use Rattle.coupling.specs.Pairs.{partnerNumber, Change, changedStrips, pairChanged}
 use Rattle.coupling.proofs.Changed.{changed-length, changed-elsewhere, changed-upper, changed-lower}
 use Rattle.coupling.proofs.Partners.{
   upperOf,
@@ -34,7 +34,7 @@ abbrev pub old : Profile → List ℕ → ℕ → ℕ → ℕ
 old p x z b = getD x (z * p .s + b) 0
 
 abbrev pub new : Profile → Change → List ℕ → ℕ → ℕ → ℕ
-new p g x z b = g (z % p .a) (z / p .a % p .a) (old p x z b) (old p x (partnerStrip (p .a) z) b)
+new p g x z b = g (z % p .a) (z / p .a % p .a) (old p x z b) (old p x (partnerNumber (p .a) z) b)
 
 module _ (p : Profile) (g : Change) (x : List ℕ) where
   open Profile p using (n, a as A, s as S)
@@ -67,7 +67,7 @@ module _ (p : Profile) (g : Change) (x : List ℕ) where
     abbrev rows : 0 < A
     rows = A>0 p acc
 
-    partner-in : (z : ℕ) → z < n * A → partnerStrip A z < n * A
+    partner-in : (z : ℕ) → z < n * A → partnerNumber A z < n * A
     partner-in z h = strip-number p acc _ (partner-within p acc (place (z / A) (z % A)) (place-within p acc z h))
 
     -- ---- the first and the last state
@@ -97,7 +97,7 @@ module _ (p : Profile) (g : Change) (x : List ℕ) where
           where
             diagonal : (z b : ℕ) → z % A ≡ z / A % A → new p g x z b ≡ old p x z b
             diagonal z b d =
-                ap (λ (i : ℕ). g i (z / A % A) (old p x z b) (old p x (partnerStrip A z) b)) d
+                ap (λ (i : ℕ). g i (z / A % A) (old p x z b) (old p x (partnerNumber A z) b)) d
                 ∙ stays (z / A % A) (old p x z b) _ (small (z * S + b))
 
             at : (z b : ℕ) → Dec (upperOf A z ≡ e) → mixed e z b ≡ mixed (e + 1) z b
@@ -109,7 +109,7 @@ module _ (p : Profile) (g : Change) (x : List ℕ) where
         -- where it is, its pair is changed: f is its partner
         module _ (u : e % A < e / A % A) where
           f : ℕ
-          f = partnerStrip A e
+          f = partnerNumber A e
 
           f<n : f < n * A
           unfolding f
@@ -156,7 +156,7 @@ module _ (p : Profile) (g : Change) (x : List ℕ) where
               changed-lower up low (e * S) (f * S) S y apart inside b l
               ∙ ap₂ low (waits f b f<n l upper-f) (waits e b e<n l upper-e)
               ∙ sym
-              (ap₂ (λ (i l : ℕ). g i l (old p x f b) (old p x (partnerStrip A f) b)) (partner-row A rows e)
+              (ap₂ (λ (i l : ℕ). g i l (old p x f b) (old p x (partnerNumber A f) b)) (partner-row A rows e)
               (partner-column A rows e)
               ∙ ap (λ (z : ℕ). low (old p x f b) (old p x z b)) (partner-partner A rows e))
 

@@ -1,6 +1,6 @@
 -- Pairs of strips: what becomes of the two strips of a pair, in an array or taken out of it.
 --
--- partnerStrip A z                     : the number in memory's order of the partner of strip z
+-- partnerNumber A z                    : the number in memory's order of the partner of strip z
 -- Change                               : what becomes of a byte, by the row and the local column of its strip, from the
 --                                        byte itself and the partner's
 -- changedStrips up low upper lower s x : x with its strips at `upper` and `lower`, of s bytes each, changed: each byte
@@ -24,8 +24,8 @@ use Rattle.document.specs.Bytes.{number}
 use Rattle.document.specs.Encoding.{constantOf}
 
 -- Strip z is that of node z div A, row z mod A.
-abbrev pub partnerStrip : ℕ → ℕ → ℕ
-partnerStrip A z = (z / A / A * A + z % A) * A + z / A % A
+abbrev pub partnerNumber : ℕ → ℕ → ℕ
+partnerNumber A z = (z / A / A * A + z % A) * A + z / A % A
 
 abbrev pub Change : Type 0
 Change = ℕ → ℕ → ℕ → ℕ → ℕ
@@ -48,7 +48,7 @@ pairChanged p g z x =
     let S : ℕ = p .s in
     let i : ℕ = z % A in
     let l : ℕ = z / A % A in
-    cond (ltb i l) (changedStrips (g i l) (g l i) (z * S) (partnerStrip A z * S) S x) x
+    cond (ltb i l) (changedStrips (g i l) (g l i) (z * S) (partnerNumber A z * S) S x) x
 
 -- The partner once above the diagonal, times the constant below it, and not at all on it.
 unfoldable pub coupledByte : Profile → Change

@@ -53,7 +53,7 @@ use Rattle.document.proofs.Message.{
 }
 use Rattle.demands.specs.Tables.{Decided, line, numberIn, Numbered}
 use Rattle.demands.specs.Message.{
-  fieldAt,
+  fieldStart,
   Formed,
   Headed,
   placeRead,
@@ -75,7 +75,7 @@ use Rattle.demands.proofs.Tables.{
 
 -- ---- where the fields stand
 module _ (p : Profile) (m : ℕ) where
-  field-is : (i : ℕ) → stripFieldStart p m i ≡ fieldAt p m i
+  field-is : (i : ℕ) → stripFieldStart p m i ≡ fieldStart p m i
   unfolding stripFieldStart
   field-is i = ap₂ (λ (h w : ℕ). h + i * w) (omega arith) (omega arith)
 
@@ -87,19 +87,19 @@ module _ (p : Profile) (m : ℕ) where
     abbrev at : ℕ
     at = stripFieldStart p m i
 
-    place-is : placeIn b at ≡ placeRead b (fieldAt p m i)
+    place-is : placeIn b at ≡ placeRead b (fieldStart p m i)
     unfolding placeIn
     place-is =
-        let e : at + 3 + 1 ≡ fieldAt p m i + 4 = omega (arith, field-is i) in
+        let e : at + 3 + 1 ≡ fieldStart p m i + 4 = omega (arith, field-is i) in
         ap₂ (λ (u v : ℕ). place (getD b u 0) (getD b v 0)) (ap (λ (o : ℕ). o + 3) (field-is i)) e
 
-    scenario-is : recordingIn b at ≡ scenarioRead b (fieldAt p m i)
+    scenario-is : recordingIn b at ≡ scenarioRead b (fieldStart p m i)
     unfolding recordingIn
     scenario-is =
-        let e : at + 3 + 2 ≡ fieldAt p m i + 5 = omega (arith, field-is i) in
+        let e : at + 3 + 2 ≡ fieldStart p m i + 5 = omega (arith, field-is i) in
         ap (λ (u : ℕ). slice b u 4) e
 
-    pub opening-is : slice b at 3 ≡ slice b (fieldAt p m i) 3
+    pub opening-is : slice b at 3 ≡ slice b (fieldStart p m i) 3
     opening-is = ap (λ (u : ℕ). slice b u 3) (field-is i)
 
 -- ---- what the tests decide
@@ -131,25 +131,25 @@ module _ (p : Profile) (content : List ℕ) (r : Recording) (qs : List Place) (b
         (h .field-01, (h .field-02, λ i l. opening-is p m b i ∙ h .fields-03 i l)),
       ))
 
-  decides-headed : Decides (headed p content b) (Headed p content b)
+  decides-headed : Decides (headed p content b) (Headed p m content b)
   unfolding headed profileContent
   decides-headed =
       decides-same _ (decides-both _ _ (decides-list _ _) (decides-list _ _))
       (λ h. record { field-01 = h .0; field-02 = h .1 }) (λ h. (h .field-01, h .field-02))
 
-  decides-placed : (i : ℕ) → Decides (placed (placeAt qs i) b (start i)) (placeRead b (fieldAt p m i) ≡ placeAt qs i)
+  decides-placed : (i : ℕ) → Decides (placed (placeAt qs i) b (start i)) (placeRead b (fieldStart p m i) ≡ placeAt qs i)
   unfolding placed
   decides-placed i =
       decides-same _ (decides-place (placeIn b (start i)) (placeAt qs i)) (λ e. sym (place-is p m b i) ∙ e)
       (λ e. place-is p m b i ∙ e)
 
-  decides-fresh : (i : ℕ) → Decides (fresh r b (start i)) (scenarioRead b (fieldAt p m i) ≡ recordingBytes r)
+  decides-fresh : (i : ℕ) → Decides (fresh r b (start i)) (scenarioRead b (fieldStart p m i) ≡ recordingBytes r)
   unfolding fresh
   decides-fresh i =
       decides-same _ (decides-list (recordingIn b (start i)) (recordingBytes r)) (λ e. sym (scenario-is p m b i) ∙ e)
       (λ e. scenario-is p m b i ∙ e)
 
-  pub message-decided : Decided (messageTests p content r qs b) (messageSentences p content r qs b)
+  pub message-decided : Decided (messageTests p content r qs b) (messageSentences p (length content) content r qs b)
   unfolding messageTests messageSentences stripSentences recordingBytes
   message-decided =
       line refl (decides-not _ decides-formed)
@@ -160,7 +160,7 @@ module _ (p : Profile) (content : List ℕ) (r : Recording) (qs : List Place) (b
       (λ past. decided-listed P _ _ (λ i. refl) (λ i. decides-not _ (decides-fresh i)))))
 
   -- a line for each strip under 8 and under 9
-  pub message-numbered : Numbered (messageSentences p content r qs b)
+  pub message-numbered : Numbered (messageSentences p (length content) content r qs b)
       ((6, 0) ∷ (7, 0) ∷ (listed (length qs) (λ i. (8, i)) ++ listed (length qs) (λ i. (9, i))))
   unfolding messageSentences stripSentences numberOf indexOf
   message-numbered =
@@ -171,20 +171,20 @@ module _ (p : Profile) (content : List ℕ) (r : Recording) (qs : List Place) (b
   -- ---- a message that passes
   pub record AsWanted : Type 0 where
     pub is-formed : Formed p (length content) (length qs) b
-    pub is-headed : Headed p content b
+    pub is-headed : Headed p (length content) content b
     pub is-placed : (i : ℕ) → i < length qs → placeIn b (stripFieldStart p (length content) i) ≡ placeAt qs i
     pub is-fresh : (i : ℕ) → i < length qs → recordingIn b (stripFieldStart p (length content) i) ≡ recordingBytes r
 
-  pub wanted-none : AsWanted → NoneHolds (messageSentences p content r qs b)
+  pub wanted-none : AsWanted → NoneHolds (messageSentences p (length content) content r qs b)
   unfolding messageSentences stripSentences recordingBytes
   wanted-none w =
-      let at-place : (i : ℕ) → i < P → placeRead b (fieldAt p m i) ≡ placeAt qs i =
+      let at-place : (i : ℕ) → i < P → placeRead b (fieldStart p m i) ≡ placeAt qs i =
       λ i l. sym (place-is p m b i) ∙ w .is-placed i l in
-      let of-scenario : (i : ℕ) → i < P → scenarioRead b (fieldAt p m i) ≡ recordingBytes r =
+      let of-scenario : (i : ℕ) → i < P → scenarioRead b (fieldStart p m i) ≡ recordingBytes r =
       λ i l. sym (scenario-is p m b i) ∙ w .is-fresh i l in
       search line-by-line depth 20
 
-  module _ (refuted : (q : Refusal) → Holds (messageSentences p content r qs b) q → ⊥) where
+  module _ (refuted : (q : Refusal) → Holds (messageSentences p (length content) content r qs b) q → ⊥) where
     pub refuted-wanted : AsWanted
     unfolding messageSentences stripSentences recordingBytes
     refuted-wanted = record {

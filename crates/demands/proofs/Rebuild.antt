@@ -18,7 +18,7 @@ use Rattle.document.specs.Refusals.{numberOf, indexOf, answerNumber, answerValu
 use Rattle.document.specs.Profile.{Accepted, profileOf}
 use Rattle.document.specs.Plan.{walkOf, planned}
 use Rattle.document.specs.Message.{recordingBytes, stripFieldLength, stripIn, stripFieldStart}
-use Rattle.document.specs.Bundle.{lostContent, bundleTests, stripStart, bundleStrip}
+use Rattle.document.specs.Bundle.{lostContent, lostContentLength, bundleTests, bundleStrip}
 use Rattle.document.specs.Rebuild.{rebuiltOf, firstStrip, rebuildTests, rebuildWith, rebuildOf}
 use Rattle.document.proofs.Decides.{decides-lt, decides-eq, decides-not}
 use Rattle.document.proofs.Bounds.{room}
@@ -60,7 +60,7 @@ use Rattle.demands.proofs.Bundle.{
 -- ---- the call
 rebuild-decided : (p : Profile) (f : Node) (r : Recording) (b y : List ℕ)
     → Decided (rebuildTests p f r b y) (rebuildSentences p f r b y)
-unfolding rebuildTests rebuildSentences bundleTests bundleSentences lostContent recordingBytes
+unfolding rebuildTests rebuildSentences bundleTests bundleSentences lostContent recordingBytes fourBytes
 rebuild-decided p f r b y =
     line refl (decides-not _ (decides-lt (f .0) (p .n)))
     (λ h. line refl (decides-not _ (decides-eq (length y) (p .a * p .s))) (λ l. message-decided p (lostContent f r) r (planned p f) b))
@@ -81,11 +81,11 @@ module _ (p : Numbers) (f : ℕ) (r : Recording) (b y : List ℕ) where
   rebuild-call : CallFor p (λ q. rebuildTests q lost r b y) (λ q. rebuildSentences q lost r b y)
       ((4, 0) ∷ (5, 0) ∷ (6, 0) ∷ (7, 0) ∷ (listed P (λ i. (8, i)) ++ listed P (λ i. (9, i)))) y (rebuildOf p f r b y)
       (Done 0, rebuilt profile)
-  unfolding rebuildOf rebuildWith rebuildSentences bundleSentences numberOf indexOf
+  unfolding rebuildOf rebuildWith rebuildSentences bundleSentences lostContent recordingBytes fourBytes numberOf indexOf
   rebuild-call =
       call-for p y (λ q. rebuildTests q lost r b y) (λ q. rebuildSentences q lost r b y) (λ q. 0) rebuilt
       (λ acc. rebuild-decided _ lost r b y)
-      (ap (λ (l : List (ℕ × ℕ)). (4, 0) ∷ (5, 0) ∷ l) (message-numbered profile _ r (planned profile lost) b))
+      (ap (λ (l : List (ℕ × ℕ)). (4, 0) ∷ (5, 0) ∷ l) (message-numbered profile (lostContent lost r) r (planned profile lost) b))
 
   pub demand-1-rebuild : Demand1Rebuild p f r b y
   demand-1-rebuild = rebuild-call .exactly
@@ -103,7 +103,7 @@ module _ (p : Numbers) (f : ℕ) (r : Recording) (b y : List ℕ) where
     below = decided _ (decides-lt f (p .n)) (λ n. granted .refuted {r = OutOfRange} (search by-name))
 
     is-wanted : AsWanted profile (lostContent lost r) r (planned profile lost) b
-    unfolding rebuildSentences bundleSentences lostContent recordingBytes
+    unfolding rebuildSentences bundleSentences lostContent recordingBytes fourBytes
     is-wanted =
         refuted-wanted profile (lostContent lost r) r (planned profile lost) b
         (λ q h. granted .refuted {r = q} (search by-name))
@@ -117,7 +117,7 @@ module _ (p : Numbers) (f : ℕ) (r : Recording) (b y : List ℕ) where
     strips-whole small i l =
         (size, λ o m. rw (slice-at b _ (p .s) o (omega (arith, size))) (small _ (omega (arith, size, within))))
       where
-        within : stripStart profile i + stripFieldLength (p .s) ≤ length b
+        within : stripFieldStart profile lostContentLength i + stripFieldLength (p .s) ≤ length b
         within = omega (arith, room i P (stripFieldLength (p .s)) l, is-wanted .is-formed .total)
 
         size : length (bundleStrip profile b i) ≡ p .s
@@ -173,7 +173,7 @@ module _ (p : Numbers) (f : ℕ) where
 
   -- ---- rebuilds from what was cut
   pub cut-passes : CutPasses p f
-  unfolding rebuildSentences bundleSentences lostContent recordingBytes answerNumber
+  unfolding rebuildSentences bundleSentences lostContent recordingBytes fourBytes answerNumber
   cut-passes x r b y cut size =
       let under : f < p .n = cut-below p f x r b cut in
       let read : NoneHolds (bundleSentences wanted node r b) =
@@ -201,7 +201,7 @@ module _ (p : Numbers) (f : ℕ) where
   cut-for-wanted q g x r u b y cut e =
       let H = cut-wanted q g x r b cut .is-headed in
       let K = is-wanted p f u b y e .is-headed in (
-        head-fixes q p _ _ b (cut-accepted q g x r b cut .short) (acc p f u b y e .short) H K,
+        head-fixes q p (cut-accepted q g x r b cut .short) (acc p f u b y e .short) H K,
         ap (λ (v : List ℕ). getD v 0 0) (sym (H .field-02) ∙ K .field-02),
       )
 

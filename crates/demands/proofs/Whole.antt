@@ -73,10 +73,10 @@ same-numbers p q l m e =
     made n k a t s = record { n = n; k = k; a = a; t = t; s = s }
 
 -- one message is not headed for two profiles
-pub head-fixes : (p q : Numbers) (c d b : List ℕ) → p .s ≤ 512 → q .s ≤ 512 → Headed (profileOf p) c b
-    → Headed (profileOf q) d b → p ≡ q
+pub head-fixes : (p q : Numbers) {m w : ℕ} {c d b : List ℕ} → p .s ≤ 512 → q .s ≤ 512 → Headed (profileOf p) m c b
+    → Headed (profileOf q) w d b → p ≡ q
 unfolding contentOf
-head-fixes p q c d b l m H K = same-numbers p q l m (sym (H .field-01) ∙ K .field-01)
+head-fixes p q small short H K = same-numbers p q small short (sym (H .field-01) ∙ K .field-01)
 
 -- ---- lists alike at the indices of a range
 module _ (x y : List ℕ) where

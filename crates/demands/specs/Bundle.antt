@@ -8,7 +8,7 @@
 -- CutFrom p f x r b       : b is a bundle cut from the stored array x
 --
 -- bundleSentences p f r b : the lines for a bundle to read, where the profile p, the lost node f and the recording r
---                           are wanted: those of a message with these in field 02 (Message.antt)
+--                           are wanted: those of a message with 5 bytes in field 02 (Message.antt)
 --
 -- planned p f are the planned places, bundleStrip p b i is the strip i of the bundle b: document/specs/Plan.antt and
 -- Bundle.antt. The numbers are document 01's own: 17 + P(9+S).
@@ -76,6 +76,7 @@ pub record CutFrom (p : Numbers) (f : ℕ) (x : List ℕ) (r : Recording) (b : L
   pub leaves : writeOf p f r x lent .1 ≡ b
 
 -- ---- a bundle to read
--- 'lost node, scenario number in four bytes': a number above them counts by its lowest 32 bits; no call has one.
+-- '02, length 5: lost node, scenario number in four bytes.' A scenario of 2^32 or more would count by its lowest 32 bits;
+-- its type rules it out.
 unfoldable pub bundleSentences : Profile → Node → Recording → List ℕ → List Sentence
-bundleSentences p f r b = messageSentences p (f .0 ∷ fourBytes (r .scenario)) r (planned p f) b
+bundleSentences p f r b = messageSentences p 5 (f .0 ∷ fourBytes (r .scenario)) r (planned p f) b

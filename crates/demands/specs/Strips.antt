@@ -13,7 +13,7 @@
 -- Shown in proofs/Strips.antt, under the name beside each.
 --
 -- planOver A k f w are the planned places over the walk w, stripOf p x q is the strip at the place q of the array x:
--- document/specs/Plan.antt and Bundle.antt.
+-- document/specs/Plan.antt and Encoding.antt.
 use mathlib.Core.Path.{_≡_}
 use mathlib.Core.List.{List}
 use Prim.Native.Nat.{ℕ, _*_, _<_}

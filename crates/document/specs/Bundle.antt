@@ -1,4 +1,5 @@
--- 'The download bundle': the message with the lost node f and the recording r in field 02, and the planned places.
+-- 'The download bundle': the message (Message.antt) with the lost node f and the recording r in field 02, and a field 03
+-- for each planned place.
 --
 -- lostContent f r     : the content of field 02
 -- lostContentLength   : how long it is
@@ -9,8 +10,7 @@
 -- writeWith p f r x b : cutting a bundle from x, written into b, with the profile p: the answer, and what b holds then
 -- writeOf p f r x b   : the same for any numbers p
 -- bundleTests p f r b : the refusals 6 to 9 of a reader, in their order
--- stripStart p i      : where the field 03 of strip i starts, from 0
--- bundleStrip p b i   : strip i of the bundle b
+-- bundleStrip p b i   : strip i of the bundle b, from 0
 use mathlib.Core.Bool.{_&&_, not}
 use mathlib.Core.List.{List, [], _∷_}
 use Prim.Native.Nat.{ℕ, _+_, _*_}
@@ -47,7 +47,7 @@ lostContent f r = f .0 ∷ recordingBytes r
 abbrev pub lostContentLength : ℕ
 lostContentLength = 1 + recordingLength
 
--- 'Length: 17 + P(9+S), P the number of places.'
+-- 'Length: 17 + P(9+S), P the number of places.' Field 01 takes 3+6 bytes, field 02 3+5, a field 03 3+6+S.
 abbrev pub bundleLength : Profile → Node → ℕ
 bundleLength p f = messageLength p lostContentLength (length (planned p f))
 
@@ -55,8 +55,8 @@ abbrev pub longestBundle : ℕ
 longestBundle =
     openingLength + maxProfileContent + (openingLength + lostContentLength) + maxPlaces * stripFieldLength maxStrip
 
--- 'A bundle cut from a stored array is what writing a bundle leaves: it takes its strips from the planned places and the
--- scenario number from the caller.'
+-- 'A bundle cut from a stored array is what writing a bundle leaves: it takes its strips from the planned places and
+-- the scenario number from the caller.'
 unfoldable pub bundleOf : Profile → Node → Recording → List ℕ → List ℕ
 bundleOf p f r x = messageOf p (lostContent f r) r (stripOf p x) (planned p f)
 
@@ -79,12 +79,9 @@ writeWith p f r x b =
 unfoldable pub writeOf : Numbers → ℕ → Recording → List ℕ → List ℕ → Answer × List ℕ
 writeOf p f r x b = onAccepted p (λ refusal. (Refused refusal, b)) (λ q. writeWith q (record { 0 = f }) r x b)
 
--- ---- a bundle to read
+-- ---- a bundle to read: 'The rebuild is given the wanted profile, node and scenario beside the bundle.'
 unfoldable pub bundleTests : Profile → Node → Recording → List ℕ → List Test
 bundleTests p f r b = messageTests p (lostContent f r) r (planned p f) b
 
-abbrev pub stripStart : Profile → ℕ → ℕ
-stripStart p = stripFieldStart p lostContentLength
-
 abbrev pub bundleStrip : Profile → List ℕ → ℕ → List ℕ
-bundleStrip p b i = stripIn (p .s) b (stripStart p i)
+bundleStrip p b i = stripIn (p .s) b (stripFieldStart p lostContentLength i)

@@ -1,13 +1,17 @@
--- 'Fields of a one-byte tag, a two-byte length (high byte first) and content': a message is field 01, the profile; a field
--- 02 with some content; and a field 03 for each place of some list. The download bundle is one (Bundle.antt). Written,
--- and compared by a reader with what is wanted: the profile p, the content of field 02, the recording r and the places
--- qs. A field starts with its tag and length, `opening`; its content follows. S is the length of a strip.
+-- 'Fields of a one-byte tag, a two-byte length (high byte first) and content': a message is field 01, the profile; a
+-- field 02 with some content; and a field 03 for each place of some list. Document 01 has one such message, the download
+-- bundle (Bundle.antt). What it says of its fields is said here of a message, since requests of document 02 add others:
+-- the same fields 01 and 03, another field 02 and other places, refused by the same lines.
+--
+-- A message is written, and compared by a reader with what is wanted: the profile p, the content of field 02, the
+-- recording r and the places qs. A field starts with its tag and length, `opening`; its content follows. S is the length
+-- of a strip.
 --
 -- recordingBytes r                  : what identifies a recording, in bytes
 -- recordingLength                   : how many bytes that is
 -- profileContent p                  : the content of field 01
--- profileContentLength p            : how long it is
 -- maxProfileContent                 : no profile's is longer
+-- profileContentLength p            : how long it is: the same for all profiles so far
 -- profileFieldLength p              : the length of field 01, tag and length counted in: field 02 starts there
 -- stripContent q r strip            : the content of field 03 for the place q
 -- stripContentLength S              : how long it is
@@ -61,6 +65,7 @@ maxProfileContent = 6
 abbrev pub profileContentLength : Profile → ℕ
 profileContentLength p = 6
 
+-- Tag and length counted in: 9 bytes. 'It opens with the three bytes 01 00 06.'
 abbrev pub profileFieldLength : Profile → ℕ
 profileFieldLength p = openingLength + profileContentLength p
 
@@ -71,6 +76,7 @@ stripContent q r strip = q .node .0 ∷ q .row .0 ∷ (recordingBytes r ++ strip
 abbrev pub stripContentLength : ℕ → ℕ
 stripContentLength S = 2 + recordingLength + S
 
+-- Tag and length counted in: 9+S bytes.
 abbrev pub stripFieldLength : ℕ → ℕ
 stripFieldLength S = openingLength + stripContentLength S
 

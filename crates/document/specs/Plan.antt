@@ -18,8 +18,9 @@
 -- priceOf n k A       : their number
 -- maxPlaces           : the greatest of these numbers
 -- planBytes qs        : places written as two bytes each
--- planTests p f x     : the refusals of planning, in their order
--- planOf p f x        : planning into x: the answer, and what x holds then
+-- planTests p f x     : the refusals of planning past those of a profile, in their order
+-- planWith p f x      : planning into x with the profile p: the answer, and what x holds then
+-- planOf p f x        : the same for any numbers p
 use mathlib.Core.Bool.{Bool, _&&_, not}
 use mathlib.Core.List.{List, [], _∷_, _++_, map}
 use Prim.Native.Nat.{ℕ, _+_, _-_, _*_, _/_}

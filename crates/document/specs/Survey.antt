@@ -6,8 +6,9 @@
 -- lookedAt p start most      : how many sets are looked at where none fails: B, or what is left if that is less
 -- foundFrom p start most     : the first failing position among them; the position after them if there is none
 -- resultOf p start most x    : what a survey that is not refused answers, and what the buffer x holds then
--- surveyTests p start x      : the refusals of a survey, in their order
--- surveyOf p start most x    : the survey into x: the answer, and what x holds then
+-- surveyTests p start x      : the refusals of a survey past those of a profile, in their order
+-- surveyWith p start most x  : the survey into x with the profile p: the answer, and what x holds then
+-- surveyOf p start most x    : the same for any numbers p; `most` is document 01's B
 -- surveyAnswer s             : the survey's answer as that of any call: refused, or answered, with the number of sets looked
 --                              at
 -- outcomeNumber s            : which of the three outcomes it is: 1 failing, 2 done, 3 open; 0 where it is refused

@@ -226,7 +226,7 @@ impl Profile {
         (q.node.0 * self.a + q.row.0) * self.s
     }
 
-    // The coupling constant of the lower strip at a row and a local column: the only function that reads a profile's t.
+    // The coupling constant of the lower strip at a row and a local column: the only function that computes with a profile's t.
     pub fn constant(self, i: Row, l: usize) -> u8
         requires { ⌜ Accepted self ⌝ }
         ensures { λ r. ⌜ r ≡ number (constantOf self (i .0) l) ⌝ }

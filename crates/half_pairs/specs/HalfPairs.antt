@@ -13,7 +13,7 @@
 -- halfPairs p nodes          : the numbers of the half pairs, rising
 -- halfPairAt p nodes e       : the e-th half pair
 -- nodeWeights p nodes        : the rows of weights of all nodes, node after node
--- weightTable p nodes        : the same in a table of 576 bytes, 24 times 24, with zeros past them
+-- weightTable p nodes        : the same in a table of 576 bytes, room for 24 times 24, with zeros past them
 -- coefficientIn p nodes r y  : the coefficient of the partner of strip y in the equation for the base symbol at the place
 --                              r; 𝟘 where y is in another row
 -- systemAt p nodes e f       : the entry of the system for the e-th and the f-th half pair

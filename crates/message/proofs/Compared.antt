@@ -9,7 +9,7 @@ use lib.ListN.{length, getD}
 use borrow.Author.Tests.{eq-eqb, ne-eqb}
 use Rattle.lists.specs.Listed.{all}
 use Rattle.lists.specs.Put.{slice, same}
-use Rattle.fields.specs.Fields.{twoBytes, fourBytes, opening, openingLength}
+use Rattle.fields.specs.Fields.{twoBytes, fourBytes, opening}
 use Rattle.document.specs.declared.Profile.{Profile}
 use Rattle.document.specs.declared.Place.{Place}
 use Rattle.document.specs.declared.Recording.{Recording}
@@ -32,7 +32,7 @@ use Rattle.document.specs.Message.{
 }
 use Rattle.document.proofs.Message.{profile-length}
 use Rattle.message.specs.Bytes.{Bounded}
-use Rattle.message.specs.Reader.{HasFields, openedIn}
+use Rattle.message.specs.Reader.{FieldsFit, openedIn}
 
 -- ---- one field 03, which starts at an offset
 module _ (b : List ℕ) (at : ℕ) where
@@ -58,7 +58,7 @@ module _ (b : List ℕ) (at : ℕ) where
 -- ---- refusal 6
 module _ (p : Profile) (m P : ℕ) (b : List ℕ) where
   -- a message as long as its fields
-  pub fits-whole : Accepted p → Bounded m P → length b ≡ stripFieldStart p m P → HasFields p m P b
+  pub fits-whole : Accepted p → Bounded m P → length b ≡ stripFieldStart p m P → FieldsFit p m P b
   fits-whole acc bounded whole = record { accepted = acc; bounded = bounded; room = omega (arith, whole) }
 
   formed-is : formed p m P b

@@ -1,9 +1,9 @@
 -- The places that bytes name, and the fields 03 that are written for them.
-use mathlib.Core.Path.{_≡_, sym, ap, subst, _∙_}
-use mathlib.Core.List.{List, _++_}
+use mathlib.Core.Path.{_≡_, ap, subst, _∙_}
+use mathlib.Core.List.{List}
 use Prim.Native.Nat.{ℕ, _+_, _*_, _/_, _≤_, _<_}
 use native.Mathlib.Omega.{arith}
-use lib.ListN.{length, take}
+use lib.ListN.{length}
 use Rattle.lists.specs.Listed.{listed}
 use Rattle.lists.specs.Each.{Each}
 use Rattle.lists.proofs.Each.{each-map, each-take}

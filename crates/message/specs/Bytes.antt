@@ -2,7 +2,8 @@
 --
 -- placeFrom bs i : the place that bytes 2i and 2i + 1 of bs name, node first
 -- placesFrom bs  : the places that the bytes bs name, two bytes each
--- Bounded m P    : a field 02 with m bytes of content, and P places: a two-byte length, and no more places than arrays have
+-- Bounded m P    : m bytes of content in field 02 and P places: what a two-byte length can say, and no more places than
+--                  an array has
 use mathlib.Core.List.{List}
 use Prim.Native.Nat.{ℕ, _+_, _*_, _/_, _≤_, _<_}
 use lib.ListN.{length, getD}

@@ -1,10 +1,10 @@
 -- What a reader asks of a message and finds in it. The content of field 02 has m bytes.
 --
--- HasFields p m P b  : the profile p is accepted, and b has the head and the fields 03 of P strips in it
--- openedIn p m b i   : the test of the tag and the length of strip i's field
+-- FieldsFit p m P b   : the profile p is accepted, and b is long enough for the head and the fields 03 of P strips
+-- openedIn p m b i    : the test of the tag and the length of strip i's field
 -- placedIn p m qs b i : the test of its place, against place i of qs
--- freshIn p m r b i  : the test of its recording
--- FirstNot T n i     : i is the first number below n for which the test T fails, or n if there is none
+-- freshIn p m r b i   : the test of its recording
+-- FirstNot T n i      : i is the first number below n for which the test T fails, or n if there is none
 use mathlib.Core.Path.{_≡_}
 use mathlib.Core.Bool.{Bool, true, false}
 use mathlib.Core.List.{List}
@@ -18,7 +18,7 @@ use Rattle.document.specs.Places.{placeAt}
 use Rattle.document.specs.Message.{opened, placed, fresh, stripFieldStart}
 use Rattle.message.specs.Bytes.{Bounded}
 
-pub record HasFields (p : Profile) (m P : ℕ) (b : List ℕ) : Type 0 where
+pub record FieldsFit (p : Profile) (m P : ℕ) (b : List ℕ) : Type 0 where
   pub accepted : Accepted p
   pub bounded : Bounded m P
   pub room : stripFieldStart p m P ≤ length b

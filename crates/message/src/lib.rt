@@ -1,5 +1,6 @@
-// Messages: field 01 with the profile, a field 02 with some content, and a field 03 for each place of some list. Written, and
-// compared by a reader with what is wanted (reader.rt). A list of places is two bytes a place, node first.
+// Messages: field 01 with the profile, a field 02 with some content, and a field 03 for each place of some list. The
+// download bundle is one. Written, and compared by a reader with what is wanted (reader.rt). A list of places is two bytes
+// a place, node first.
 ghost use mathlib.Core.Path.{_≡_};
 ghost use mathlib.Core.List.{_++_};
 ghost use Prim.Native.Nat.{_+_, _*_, _/_, _<_, _≤_};
@@ -11,8 +12,8 @@ ghost use Rattle.document.specs.Profile.{Accepted};
 ghost use Rattle.document.specs.Places.{Within, placeAt};
 ghost use Rattle.document.specs.Encoding.{stripOf};
 ghost use Rattle.document.specs.Message.{recordingBytes, recordingLength, profileContent, profileFieldLength};
-ghost use Rattle.document.specs.Message.{stripContent, stripFieldLength, headLength, messageLength, stripFields, messageOf};
-ghost use Rattle.document.specs.Message.{stripFieldStart};
+ghost use Rattle.document.specs.Message.{stripContent, stripFieldLength, headLength, messageLength, stripFields};
+ghost use Rattle.document.specs.Message.{messageOf, stripFieldStart};
 ghost use Rattle.message.specs.Bytes.{placesFrom, Bounded};
 
 mod reader;
@@ -193,6 +194,7 @@ pub fn put_message(
     requires { ⌜ Accepted p × Each (Within p) (placesFrom (now places))
         × (length (now array) ≡ p .n * p .a * p .s)
         × (length (now out) ≡ messageLength p (length (now content)) (length (now places) / 2)) ⌝ }
+    requires { ⌜ Bounded (length (now content)) (length (now places) / 2) ⌝ }
     ensures { λ end. ⌜ Wrote (now (out .entry)) 0
         (messageOf p (now (content .entry)) r (stripOf p (now (array .entry))) (placesFrom (now (places .entry))))
         end (now (out .exit)) ⌝ }

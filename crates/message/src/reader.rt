@@ -1,4 +1,5 @@
-// A message compared with what is wanted: the refusals 6 to 9. The tests of one field 03 take the offset where it starts.
+// A message compared with what is wanted: the refusals 6 to 9. The tests of one field 03 take the offset where it
+// starts.
 ghost use mathlib.Core.Path.{_≡_};
 ghost use Prim.Native.Nat.{_+_, _/_, _<_, _≤_};
 ghost use lib.ListN.{length};
@@ -10,7 +11,7 @@ ghost use Rattle.document.specs.Profile.{Accepted};
 ghost use Rattle.document.specs.Message;
 ghost use Rattle.document.specs.Message.{recordingLength, headLength, messageTests};
 ghost use Rattle.message.specs.Bytes.{placesFrom, Bounded};
-ghost use Rattle.message.specs.Reader.{HasFields, openedIn, placedIn, freshIn, FirstNot};
+ghost use Rattle.message.specs.Reader.{FieldsFit, openedIn, placedIn, freshIn, FirstNot};
 use crate::PLACED;
 use crate::place_at;
 use crate::profile_content;
@@ -56,7 +57,7 @@ pub fn fresh(r: Recording, b: &[u8], at: usize) -> bool
 
 // Whether all fields 03 have their tag and length.
 fn all_opened(p: Profile, m: usize, b: &[u8], count: usize) -> bool
-    requires { ⌜ HasFields p m count (now b) ⌝ }
+    requires { ⌜ FieldsFit p m count (now b) ⌝ }
     ensures { λ r. ⌜ r ≡ all count (openedIn p m (now (b .entry))) ⌝ }
 {
     let mut i: usize = 0;
@@ -102,7 +103,7 @@ fn headed(p: Profile, content: &[u8], b: &[u8]) -> bool
 
 // The first strip that has another place than the list, or the number of strips.
 fn first_misplaced(p: Profile, m: usize, places: &[u8], b: &[u8]) -> usize
-    requires { ⌜ HasFields p m (length (now places) / 2) (now b) ⌝ }
+    requires { ⌜ FieldsFit p m (length (now places) / 2) (now b) ⌝ }
     ensures { λ r. ⌜ FirstNot (placedIn p m (placesFrom (now (places .entry))) (now (b .entry)))
         (length (now (places .entry)) / 2) r ⌝ }
 {
@@ -120,7 +121,7 @@ fn first_misplaced(p: Profile, m: usize, places: &[u8], b: &[u8]) -> usize
 
 // The first strip of another recording, or the number of strips.
 fn first_stale(p: Profile, m: usize, r: Recording, b: &[u8], count: usize) -> usize
-    requires { ⌜ HasFields p m count (now b) ⌝ }
+    requires { ⌜ FieldsFit p m count (now b) ⌝ }
     ensures { λ i. ⌜ FirstNot (freshIn p m r (now (b .entry))) count i ⌝ }
 {
     let mut i: usize = 0;

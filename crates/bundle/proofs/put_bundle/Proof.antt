@@ -17,6 +17,7 @@ use Rattle.bundle.proofs.Planned.{
   places-are,
   places-number,
   places-within,
+  bundle-bounded,
 }
 use Rattle.bundle.proofs.put_bundle.Statement.{statement}
 use Rattle.bundle.proofs.put_bundle.Tie as tie
@@ -46,12 +47,15 @@ put-message-requires c κs =
     let s = start w in
     let content : length (w .before .before .lost-content .result) ≡ 5 =
     ap length (w .before .before .lost-content .ensures) ∙ lost-length (s .args .f) (s .args .r) in (
-      s .pre .0,
-      places-within _ (s .pre .0) _ (s .pre .1) (w .put-plan .ensures),
-      s .pre .2,
-      s .pre .3
-          ∙ sym (ap₂ (messageLength (s .args .p)) content
-          (places-number _ (s .pre .0) _ (s .pre .1) (w .put-plan .ensures))),
+      (
+        s .pre .0,
+        places-within _ (s .pre .0) _ (s .pre .1) (w .put-plan .ensures),
+        s .pre .2,
+        s .pre .3
+            ∙ sym (ap₂ (messageLength (s .args .p)) content
+            (places-number _ (s .pre .0) _ (s .pre .1) (w .put-plan .ensures))),
+      ),
+      bundle-bounded _ (s .pre .0) _ (s .pre .1) (w .put-plan .ensures) _ (w .before .before .lost-content .ensures),
     )
 
 returns : tie.Need-returns

@@ -11,7 +11,7 @@ use Rattle.document.specs.Bytes.{number}
 use Rattle.document.specs.Encoding as E
 use Rattle.document.specs.Encoding.{constantOf}
 use Rattle.document.proofs.Bounds.{A>0, room, place-within, partner-within}
-use Rattle.coupling.specs.Pairs.{partnerStrip}
+use Rattle.coupling.specs.Pairs.{partnerNumber}
 use Rattle.coupling.proofs.Partners.{partner-before, strip-start, partner-start, no-upper}
 use Rattle.coupling.proofs.Coupled.{upper-pair}
 use Rattle.coupling.proofs.couple_strip.Statement.{statement}
@@ -44,15 +44,15 @@ module _ (c : tie.After-start2) where
   upper-start : c .before .start .result ≡ z * p .s
   upper-start = c .before .start .ensures ∙ ap (E.start p) (q .place .ensures) ∙ strip-start p z
 
-  lower-start : c .start2 .result ≡ partnerStrip (p .a) z * p .s
+  lower-start : c .start2 .result ≡ partnerNumber (p .a) z * p .s
   lower-start =
       c .start2 .ensures
       ∙ ap (E.start p) (c .before .before .before .partner .ensures ∙ ap (partnerOf (p .a)) (q .place .ensures))
       ∙ partner-start p z
 
-  apart : partnerStrip (p .a) z * p .s + p .s ≤ z * p .s
+  apart : partnerNumber (p .a) z * p .s + p .s ≤ z * p .s
   apart =
-      room (partnerStrip (p .a) z) z (p .s)
+      room (partnerNumber (p .a) z) z (p .s)
       (partner-before (p .a) (A>0 p (q .before .before .pre .0)) z (upper (c .before .before .before .before)))
 
   inside : z * p .s + p .s ≤ length (q .before .before .args .x .now)

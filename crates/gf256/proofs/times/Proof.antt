@@ -1,6 +1,6 @@
 -- `gf256::times` meets its contract. The loop follows `bitProduct`: the sum so far, with the product of x and the n lowest
 -- bits of y, is the product.
-use mathlib.Core.Path.{_≡_, sym, ap, ap₂, _∙_}
+use mathlib.Core.Path.{_≡_, sym, ap₂, _∙_}
 use mathlib.Core.Logic.{⊎-elim}
 use Prim.Native.Nat.{ℕ, suc, _*_, _/_, _%_, _-_, _<_}
 use native.Mathlib.Nat.{mod-eq-of-lt, mul-zero, mul-one}

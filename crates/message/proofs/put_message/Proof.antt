@@ -34,7 +34,8 @@ put-strips-requires : tie.Need-put-strips-requires
 put-strips-requires c κs =
     let h = c .before .before .before in
     let s = start h in
-    (s .pre .0, s .pre .1, s .pre .2, omega (arith, after-head h, h .put-head .kept .0, s .pre .3))
+    let asked = s .pre .0 in
+    (asked .0, asked .1, asked .2, omega (arith, after-head h, h .put-head .kept .0, asked .3))
 
 returns : tie.Need-returns
 unfolding messageOf

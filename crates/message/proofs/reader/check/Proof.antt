@@ -1,5 +1,5 @@
 -- `message::reader::check` meets its contract: each return is the answer of the tests that led there.
-use mathlib.Core.Path.{_≡_, refl, sym, _∙_}
+use mathlib.Core.Path.{_≡_, sym, _∙_}
 use mathlib.Core.Bool.{true}
 use Prim.Native.Nat.{_/_}
 use native.Mathlib.Omega.{arith}
@@ -8,7 +8,7 @@ use borrow.Author.Tests.{not-true, not-false}
 use lib.ListN.{length}
 use Rattle.document.specs.Message.{formed, headed, stripFieldStart}
 use Rattle.document.proofs.Message.{formed-length}
-use Rattle.message.specs.Reader.{HasFields}
+use Rattle.message.specs.Reader.{FieldsFit}
 use Rattle.message.proofs.Fit.{head-room}
 use Rattle.message.proofs.Compared.{fits-whole}
 use Rattle.message.proofs.Answers.{form-refused, head-refused, place-refused, stale-refused, passed}
@@ -25,7 +25,7 @@ module _ (c : tie.Else1) where
       ≡ true
   form = sym (c .before .formed .ensures) ∙ not-false _ (c .if1 .left)
 
-  fits : HasFields (start .args .p) (length (start .args .content .now)) (length (start .args .places .now) / 2)
+  fits : FieldsFit (start .args .p) (length (start .args .content .now)) (length (start .args .places .now) / 2)
       (start .args .b .now)
   unfolding stripFieldStart
   fits = fits-whole _ _ _ _ (start .pre .0) (start .pre .1) (formed-length _ _ _ _ form)

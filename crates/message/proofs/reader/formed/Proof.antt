@@ -8,7 +8,7 @@ use borrow.Author.Tests.{not-true, not-false}
 use lib.ListN.{length, getD}
 use Rattle.fields.specs.Fields.{twoBytes}
 use Rattle.document.specs.Message.{stripFieldStart}
-use Rattle.message.specs.Reader.{HasFields}
+use Rattle.message.specs.Reader.{FieldsFit}
 use Rattle.message.proofs.Fit.{head-room}
 use Rattle.message.proofs.Compared.{fits-whole, not-whole, not-first, not-second, formed-left}
 use Rattle.message.proofs.reader.formed.Statement.{statement}
@@ -22,7 +22,7 @@ module _ (c : tie.Else1) where
   whole : length (start .args .b .now) ≡ stripFieldStart (start .args .p) (start .args .m) (start .args .count)
   whole = c .if1 .left ∙ c .before .strip-field .ensures
 
-  fits : HasFields (start .args .p) (start .args .m) (start .args .count) (start .args .b .now)
+  fits : FieldsFit (start .args .p) (start .args .m) (start .args .count) (start .args .b .now)
   fits = fits-whole _ _ _ _ (start .pre .0) (start .pre .1) whole
 
 abbrev long : tie.Else2 → tie.Else1
