@@ -29,14 +29,14 @@ use Rattle.document.specs.Bundle.{
   writeOf,
   bundleStrip,
 }
-use Rattle.document.proofs.Decides.{decides-lt, decides-eq, decides-both, decides-not, decides-same}
+use Rattle.document.proofs.Decides.{decides-lt, decides-eq, decides-both, decides-not, decides-same, decided}
 use Rattle.document.proofs.Price.{planned-price}
 use Rattle.document.proofs.Message.{Whole, written-strip, message-ext}
 use Rattle.document.proofs.Bundle.{strips-whole, bundle-length}
 use Rattle.demands.specs.Tables.{Decided, none, line}
 use Rattle.demands.specs.Strips.{HasStrips, AlikeAt}
 use Rattle.demands.specs.Bundle.{writeSentences, Demand1Write, WrittenBundle, Demand3Write, CutFrom}
-use Rattle.demands.proofs.Tables.{decided, by-name}
+use Rattle.demands.proofs.Tables.{by-name}
 use Rattle.demands.proofs.Profile.{Granted, CallFor, call-for}
 use Rattle.demands.proofs.Message.{length-is, AsWanted, written-wanted}
 use Rattle.demands.proofs.Whole.{all-fixed}

@@ -46,11 +46,11 @@ use Rattle.document.proofs.Arrays.{
   coupled-ext,
 }
 use Rattle.document.specs.declared.Refusal.the-variants.{BufferLength}
-use Rattle.document.proofs.Decides.{decides-eq}
+use Rattle.document.proofs.Decides.{decides-eq, decided}
 use Rattle.document.proofs.Decides.{decides-eq, decides-both, decides-not}
 use Rattle.demands.specs.Tables.{Decided, none, line}
 use Rattle.demands.specs.Encoding.{encodeSentences, Demand1Encode, DocumentArray, OneArray, Demand2Encode}
-use Rattle.demands.proofs.Tables.{decided, by-name}
+use Rattle.demands.proofs.Tables.{by-name}
 use Rattle.demands.proofs.Profile.{Granted, CallFor, call-for}
 
 -- ---- the call

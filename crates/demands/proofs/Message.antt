@@ -41,6 +41,7 @@ use Rattle.document.proofs.Decides.{
   decides-list,
   decides-all,
   decides-place,
+  decided,
 }
 use Rattle.document.proofs.Message.{
   Whole,
@@ -62,7 +63,6 @@ use Rattle.demands.specs.Message.{
   messageSentences,
 }
 use Rattle.demands.proofs.Tables.{
-  decided,
   Holds,
   by-name,
   NoneHolds,

@@ -12,7 +12,7 @@ use Rattle.document.specs.declared.Answer.the-variants.{Done}
 use Rattle.document.specs.Refusals.{numberOf, indexOf, answerValue}
 use Rattle.document.specs.Profile.{profileOf}
 use Rattle.document.specs.Plan.{walkOf, planned, planBytes, planTests, planWith, planOf}
-use Rattle.document.proofs.Decides.{decides-lt, decides-not}
+use Rattle.document.proofs.Decides.{decides-lt, decides-not, decided}
 use Rattle.document.proofs.Bounds.{A>0}
 use Rattle.document.proofs.Walks.{Sound, complete-sound, walk-complete}
 use Rattle.document.proofs.Price.{over-price}
@@ -20,7 +20,7 @@ use Rattle.document.proofs.Planned.{over-distinct, over-off-lost}
 use Rattle.document.proofs.Chosen.{planned-within}
 use Rattle.demands.specs.Tables.{Decided, none, line}
 use Rattle.demands.specs.Plan.{planSentences, Demand1Plan, Demand3Places, Demand3Walk, Demand3Plan}
-use Rattle.demands.proofs.Tables.{decided, by-name}
+use Rattle.demands.proofs.Tables.{by-name}
 use Rattle.demands.proofs.Profile.{Granted, CallFor, call-for}
 
 -- ---- the call

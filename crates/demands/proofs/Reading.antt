@@ -16,12 +16,12 @@ use Rattle.document.specs.declared.Answer.the-variants.{Done, Refused}
 use Rattle.document.specs.Refusals.{numberOf, indexOf, answerNumber, answerValue, Decides}
 use Rattle.document.specs.Profile.{Accepted, profileOf}
 use Rattle.document.specs.Reading.{TwoData, ambiguous, dataFrom, listAccepted, readTests, readWith, readOf}
-use Rattle.document.proofs.Decides.{decides-eq, decides-both, decides-not, decides-false}
+use Rattle.document.proofs.Decides.{decides-eq, decides-both, decides-not, decides-false, decided}
 use Rattle.document.proofs.NodeLists.{decides-list-accepted, decides-ambiguous}
 use Rattle.document.proofs.Reading.{read-data, read-columns, read-only}
 use Rattle.demands.specs.Tables.{Decided, none, line}
 use Rattle.demands.specs.Reading.{readSentences, Demand1Read, InDueForm, OnlyData, Demand2Reading}
-use Rattle.demands.proofs.Tables.{decided, by-name, in-order, line-by-line}
+use Rattle.demands.proofs.Tables.{by-name, in-order, line-by-line}
 use Rattle.demands.proofs.Profile.{Granted, CallFor, call-for, call-answer}
 
 -- ---- the call

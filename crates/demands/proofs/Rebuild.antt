@@ -20,7 +20,7 @@ use Rattle.document.specs.Plan.{walkOf, planned}
 use Rattle.document.specs.Message.{recordingBytes, stripFieldLength, stripIn, stripFieldStart}
 use Rattle.document.specs.Bundle.{lostContent, lostContentLength, bundleTests, bundleStrip}
 use Rattle.document.specs.Rebuild.{rebuiltOf, firstStrip, rebuildTests, rebuildWith, rebuildOf}
-use Rattle.document.proofs.Decides.{decides-lt, decides-eq, decides-not}
+use Rattle.document.proofs.Decides.{decides-lt, decides-eq, decides-not, decided}
 use Rattle.document.proofs.Bounds.{room}
 use Rattle.document.proofs.Walks.{Sound, walk-sound}
 use Rattle.demands.specs.Tables.{Decided, line}
@@ -42,7 +42,7 @@ use Rattle.demands.specs.Rebuild.{
   CutForWanted,
   WholeBundle,
 }
-use Rattle.demands.proofs.Tables.{decided, by-name, NoneHolds, line-by-line}
+use Rattle.demands.proofs.Tables.{by-name, NoneHolds, line-by-line}
 use Rattle.demands.proofs.Profile.{Granted, CallFor, call-for, call-answer}
 use Rattle.demands.proofs.Strips.{same-rebuilt, column-of, bundle-gives, some-fits}
 use Rattle.demands.proofs.Message.{message-decided, message-numbered, AsWanted, wanted-none, refuted-wanted}

@@ -22,7 +22,7 @@ use Rattle.document.specs.Refusals.{numberOf, indexOf, answerNumber, answerValu
 use Rattle.document.specs.Profile.{Accepted, profileTests, profileOf, onAccepted}
 use Rattle.document.specs.Reading.{TwoData}
 use Rattle.document.specs.Survey.{resultOf, surveyTests, surveyWith, surveyOf, surveyAnswer}
-use Rattle.document.proofs.Decides.{decides-le, decides-lt, decides-eq, decides-not}
+use Rattle.document.proofs.Decides.{decides-le, decides-lt, decides-eq, decides-not, decided}
 use Rattle.document.proofs.Accepts.{one-list, on-accepted-map, on-accepted-same}
 use Rattle.document.proofs.Tried.{tried-map}
 use Rattle.document.proofs.Surveys.{decides-fails, by-result}
@@ -45,16 +45,7 @@ use Rattle.demands.specs.Survey.{
   SurveysJoin,
   SurveyDemands,
 }
-use Rattle.demands.proofs.Tables.{
-  decided,
-  Holds,
-  by-name,
-  held,
-  line-by-line,
-  only-append,
-  FirstOrNone,
-  first-or-none,
-}
+use Rattle.demands.proofs.Tables.{Holds, by-name, held, line-by-line, only-append, FirstOrNone, first-or-none}
 use Rattle.demands.proofs.Calls.{tried-stops, tried-through}
 use Rattle.demands.proofs.Profile.{accepted-none, past-profile, profile-decided, call-for}
 use Rattle.demands.proofs.Reading.{read-refused, read-answered}

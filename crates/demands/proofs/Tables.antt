@@ -1,6 +1,5 @@
 -- The laws of tables of refusals, and of tests that decide them.
 --
--- decided         : what is decided and not refuted holds
 -- Holds table r   : some line of the refusal r holds. `search by-name` finds it, wherever it stands, where what it says
 --                   is at hand
 -- FirstOf table r : `search in-order` shows it, where what r says is at hand and what refutes the lines before it
@@ -17,15 +16,10 @@ use native.Mathlib.Nat.{zero-lt-suc, not-suc-le-zero}
 use native.Mathlib.Omega.{arith}
 use Rattle.lists.specs.Listed.{listed}
 use Rattle.document.specs.declared.Refusal.{Refusal}
-use Rattle.document.specs.declared.Refusal.the-variants as refusals
 use Rattle.document.specs.Refusals.{Test, Decides}
 use Rattle.document.proofs.Decides.{decides-false}
 use Rattle.document.proofs.Tried.{Failed}
 use Rattle.demands.specs.Tables.{Sentence, FirstOf, here, later, Decided, none, line}
-
-pub decided : {P : Type 0} (b : Bool) → Decides b P → ((P → ⊥) → ⊥) → P
-decided true d n = d .0 refl
-decided false d n = absurd (n (λ h. false≢true (d .1 h)))
 
 -- ---- a line that holds, by its name
 pub data Holds : List Sentence → Refusal → Type 1 where
