@@ -46,4 +46,4 @@ module _ (p : Profile) (f : Node) (r : Recording) (x b : List ℕ) where
           ∙ sym (simp (lt-ltb _ _ known, eq-eqb _ _ size, eq-eqb _ _ room))
         where
           whole : length (bundleOf p f r x) ≡ bundleLength p f
-          whole = bundle-length p r x acc size f known
+          whole = bundle-length p acc x size r f known

@@ -1,6 +1,2 @@
-pub mod Strips
+pub mod Planned
 pub mod Answers
-pub mod Fit
-pub mod Found
-pub mod Compared
-pub mod ReaderAnswers

@@ -2,4 +2,3 @@ pub mod Lists
 pub mod Lagrange
 pub mod Combination
 pub mod Data
-pub mod Positions

@@ -1,8 +1,7 @@
--- Lagrange's weights on lists of node numbers, and what they are computed from; and where a node stands in such a list.
+-- Lagrange's weights on lists of node numbers, and what they are computed from.
 --
 -- Different nodes       : at most 24 nodes, no two of them equal
 -- Outside nodes at      : the node `at` is none of the nodes
--- positionIn nodes j    : where node j stands among the nodes, from 0; their number if it does not
 -- points nodes i        : the point of the i-th node, 'the field element with that number'
 -- weightsOf nodes at    : the weight at `at` of each of the nodes
 -- differencesOf nodes x : the sum of x and each of the nodes
@@ -12,10 +11,8 @@
 -- weightsFrom ds ms     : for each node the product of all differences, divided by its own difference and denominator
 use mathlib.Core.Path.{_≡_}
 use mathlib.Core.Logic.{_≢_}
-use mathlib.Core.Bool.{cond}
-use mathlib.Core.List.{List, [], _∷_}
-use Prim.Native.Nat.{ℕ, suc, _≤_, _<_}
-use lib.Dec.{eqb}
+use mathlib.Core.List.{List}
+use Prim.Native.Nat.{ℕ, _≤_, _<_}
 use lib.ListN.{length, getD}
 use Rattle.lists.specs.Listed.{listed}
 use Rattle.gf256.specs.Field.{productOf, quotientsOf, NoZero}
@@ -31,10 +28,6 @@ pub record Different (nodes : List ℕ) : Type 0 where
 -- A node at which the polynomial is wanted and not given.
 abbrev pub Outside : List ℕ → ℕ → Type 0
 Outside nodes at = (i : ℕ) → i < length nodes → getD nodes i 0 ≢ at
-
-unfoldable pub positionIn : List ℕ → ℕ → ℕ
-positionIn [] j = 0
-positionIn (x ∷ xs) j = cond (eqb x j) 0 (suc (positionIn xs j))
 
 -- 'Node j has the point j, the field element with that number.'
 abbrev pub points : List ℕ → ℕ → Byte

@@ -1,26 +1,12 @@
 // The weights of Lagrange's formula, for any node from other nodes that all differ: for each of them the product of all
-// differences, divided by its own difference and by its denominator. And the search for a node in a list.
+// differences, divided by its own difference and by its denominator.
 ghost use mathlib.Core.Path.{_≡_};
 ghost use Prim.Native.Nat.{_≤_, _<_};
 ghost use lib.ListN.{length};
 ghost use Rattle.lists.specs.Listed.{listed};
-ghost use Rattle.coefficients.specs.Weights.{Different, Outside, positionIn, weightsOf};
+ghost use Rattle.coefficients.specs.Weights.{Different, Outside, weightsOf};
 ghost use Rattle.coefficients.specs.Weights.{differencesOf, denominatorOf, denominatorsOf, Divisors, weightsFrom};
 ghost use Rattle.coefficients.specs.Data.{dataDenominators, dataWeights};
-
-// Where node j stands in the list; its length if it does not.
-pub fn position_of(nodes: &[u8], j: usize) -> usize
-    ensures { λ r. ⌜ r ≡ positionIn (now (nodes .entry)) j ⌝ }
-{
-    let mut q: usize = 0;
-    while q < nodes.len() {
-        if nodes[q] as usize == j {
-            return q;
-        }
-        q += 1;
-    }
-    q
-}
 
 // The sum of x and each node.
 fn differences(x: u8, nodes: &[u8], out: &mut [u8])

@@ -1,6 +1,6 @@
 -- Strips at the planned places: some encoded array has them, and the column rebuilt from them is the one that each such
--- array has on the lost node. Over lists of bytes, for an accepted profile, any lost node
--- and any walk that goes over each candidate once.
+-- array has on the lost node. Over lists of bytes, for an accepted profile, any lost node and any walk that goes over
+-- each candidate once.
 use mathlib.Core.Path.{_≡_, refl, sym, ap, _∙_}
 use mathlib.Core.List.{List}
 use Prim.Native.Nat.{ℕ, _+_, _*_, _<_}
@@ -13,23 +13,16 @@ use Rattle.document.specs.declared.Profile.{Profile}
 use Rattle.document.specs.declared.Node.{Node}
 use Rattle.document.specs.declared.Place.{Place}
 use Rattle.document.specs.Profile.{Accepted}
-use Rattle.document.specs.Places.{place}
+use Rattle.document.specs.Places.{place, placeAt}
 use Rattle.document.specs.Bytes.{Byte, byte, number}
-use Rattle.document.specs.Encoding.{byteAt, columnOf, Stored, encoded}
+use Rattle.document.specs.Encoding.{byteAt, columnOf, Stored, encoded, stripOf}
 use Rattle.document.specs.Plan.{Walk, chosenOver, planOver}
-use Rattle.document.specs.Bundle.{stripFieldLength, stripOf, stripIn}
+use Rattle.document.specs.Message.{stripFieldLength}
+use Rattle.document.specs.Bundle.{bundleStrip}
 use Rattle.document.specs.Rebuild.{positionOf, givenAt, rebuiltOver, firstStrip}
 use Rattle.document.proofs.Bytes.{number-byte}
-use Rattle.document.proofs.Walks.{Sound}
-use Rattle.document.proofs.Chosen.{
-  choice,
-  outside,
-  shape,
-  listed-planned,
-  planned-listed,
-  position,
-  planned-within,
-}
+use Rattle.document.proofs.Walks.{Sound, complete-sound}
+use Rattle.document.proofs.Chosen.{choice, outside, shape, listed-planned, planned-listed, position, planned-within}
 use Rattle.document.proofs.Columns.{
   Alike,
   rebuilt-alike,
@@ -41,8 +34,8 @@ use Rattle.document.proofs.Columns.{
   given-strip,
 }
 use Rattle.demands.specs.Encoding.{DocumentArray}
-use Rattle.demands.specs.Rebuild.{Bytes, EncodedArray, HasStrips, columnIn}
-use Rattle.demands.proofs.Demand2.{encoded-is, encoded-only}
+use Rattle.demands.specs.Strips.{Bytes, EncodedArray, HasStrips, columnIn, Fits, OneColumn}
+use Rattle.demands.proofs.Encoding.{encoded-is, encoded-only}
 
 module _ (p : Profile) (acc : Accepted p) (f : Node) (h : f .0 < p .n) (w : Walk)
     (sound : Sound (p .n) (p .a) f w) where
@@ -56,7 +49,7 @@ module _ (p : Profile) (acc : Accepted p) (f : Node) (h : f .0 < p .n) (w : Walk
   P = length plan
 
   abbrev at : ℕ → Place
-  at i = getD plan i (place 0 0)
+  at i = placeAt plan i
 
   -- the nodes of steps 2 and 3
   abbrev s : ℕ → ℕ
@@ -112,10 +105,10 @@ module _ (p : Profile) (acc : Accepted p) (f : Node) (h : f .0 < p .n) (w : Walk
   array-gives y i b r l = strip-byte p y (at i) (stripOf p y (at i)) refl b l
 
   -- the strips of a bundle, where a rebuild reads them
-  pub bundle-gives : (b : List ℕ) → Gives (givenAt plan b firstStrip (stripFieldLength S)) (stripIn p b)
+  pub bundle-gives : (b : List ℕ) → Gives (givenAt plan b (firstStrip p) (stripFieldLength S)) (bundleStrip p b)
   unfolding givenAt
   bundle-gives b i o r l =
-      ap (λ (m : ℕ). byte (getD b (firstStrip + m * stripFieldLength S + o) 0))
+      ap (λ (m : ℕ). byte (getD b (firstStrip p + m * stripFieldLength S + o) 0))
       (position p acc f h w sound i r)
       ∙ ap byte (sym (given-strip p b i o l))
 
@@ -156,3 +149,14 @@ module _ (p : Profile) (acc : Accepted p) (f : Node) (h : f .0 < p .n) (w : Walk
 
     pub some-fits : (x : List ℕ) × EncodedArray p x × HasStrips p plan x v
     some-fits = (array, record { given = found .0; gives = is-array }, has)
+
+-- ---- for every complete walk
+pub fits : Fits
+fits p acc f h w complete = some-fits p acc f h w (complete-sound p acc f h w complete)
+
+pub one-column : OneColumn
+one-column p acc f h w complete x y X Y alike =
+    let sound : Sound (p .n) (p .a) f w = complete-sound p acc f h w complete in
+    let strips : ℕ → List ℕ = λ i. stripOf p y (getD (planOver (p .a) (p .k) f w) i (place 0 0)) in
+    sym (column-of p acc f h w sound x X strips alike (byteAt p y) (array-gives p acc f h w sound y))
+    ∙ column-of p acc f h w sound y Y strips (λ i l. refl) (byteAt p y) (array-gives p acc f h w sound y)

@@ -1,10 +1,9 @@
--- The survey: what each outcome says is so, 'done' from the first set on means that every set can be read, and surveys
--- of adjoining ranges join into one.
-use mathlib.Core.Path.{_≡_, sym, ap, subst, _∙_}
+-- The survey: demand 1, what each outcome says is so, 'done' from the first set on means that every set can be read,
+-- and surveys of adjoining ranges join into one.
+use mathlib.Core.Path.{_≡_, refl, sym, ap, subst, _∙_}
 use mathlib.Core.Logic.{_⊎_, inl, inr}
-use mathlib.Core.Bool.{false≢true}
 use mathlib.Core.List.{List, _++_}
-use Prim.Native.Nat.{ℕ, _+_, _-_, _≤_, _<_}
+use Prim.Native.Nat.{ℕ, _+_, _≤_, _<_}
 use native.Mathlib.Omega.{arith}
 use lib.ListN.{length}
 use Rattle.ksets.specs.Sets.{sets, setAt, rankOf}
@@ -16,38 +15,23 @@ use Rattle.document.specs.declared.Profile.{Profile}
 use Rattle.document.specs.declared.Refusal.{Refusal}
 use Rattle.document.specs.declared.Refusal.the-variants.{OutOfRange, BufferLength}
 use Rattle.document.specs.declared.Surveyed.{Surveyed}
-use Rattle.document.specs.declared.Surveyed.the-variants.{Done, Open, Refused}
+use Rattle.document.specs.declared.Surveyed.the-variants.{Done, Refused}
+use Rattle.document.specs.declared.Answer.{Answer}
 use Rattle.document.specs.declared.Answer.the-variants as answers
-use Rattle.document.specs.Refusals.{answerNumber, answerValue, tried}
-use Rattle.document.specs.Profile.{Accepted, profileTests, profileOf}
+use Rattle.document.specs.Refusals.{numberOf, indexOf, answerNumber, answerValue, tried}
+use Rattle.document.specs.Profile.{Accepted, profileTests, profileOf, onAccepted}
 use Rattle.document.specs.Reading.{TwoData}
-use Rattle.document.specs.Survey.{
-  firstIn,
-  failsAt,
-  lookedAt,
-  foundFrom,
-  resultOf,
-  surveyTests,
-  surveyWith,
-  surveyOf,
-  surveyAnswer,
-}
-use Rattle.document.proofs.Decides.{decides-le, decides-eq}
-use Rattle.document.proofs.Accepts.{one-list}
-use Rattle.document.proofs.Surveys.{
-  First,
-  first-found,
-  first-early,
-  first-late,
-  decides-fails,
-  failingAt,
-  result-failing,
-  result-done,
-  result-open,
-  by-result,
-}
-use Rattle.demands.specs.Refusals.{Sentence, FirstOf, Decided, profileSentences, surveySentences}
+use Rattle.document.specs.Survey.{resultOf, surveyTests, surveyWith, surveyOf, surveyAnswer}
+use Rattle.document.proofs.Decides.{decides-le, decides-lt, decides-eq, decides-not, decided}
+use Rattle.document.proofs.Accepts.{one-list, on-accepted-map, on-accepted-same}
+use Rattle.document.proofs.Tried.{tried-map}
+use Rattle.document.proofs.Surveys.{decides-fails, by-result}
+use Rattle.document.proofs.Refusals.{never-zero}
+use Rattle.demands.specs.Tables.{Sentence, Decided, none, line}
+use Rattle.demands.specs.Profile.{profileSentences}
 use Rattle.demands.specs.Survey.{
+  surveySentences,
+  Demand1Survey,
   NoneFails,
   Tells,
   failing,
@@ -61,59 +45,50 @@ use Rattle.demands.specs.Survey.{
   SurveysJoin,
   SurveyDemands,
 }
-use Rattle.demands.proofs.Tables.{
-  answered,
-  decided,
-  first-or-none,
-  tried-stops,
-  tried-through,
-  Holds,
-  next,
-  by-name,
-  none-holds,
-  holds-right,
-  fails-append,
-  first-nowhere,
-  accepted-fails,
-  nowhere-accepted,
-}
-use Rattle.demands.proofs.Demand1.{demand-1-survey}
-use Rattle.demands.proofs.Demand2Reading.{read-refused, read-answered}
+use Rattle.demands.proofs.Tables.{Holds, by-name, held, line-by-line, only-append, FirstOrNone, first-or-none}
+use Rattle.demands.proofs.Calls.{tried-stops, tried-through}
+use Rattle.demands.proofs.Profile.{accepted-none, past-profile, profile-decided, call-for}
+use Rattle.demands.proofs.Reading.{read-refused, read-answered}
+use Rattle.demands.proofs.Results.{result-tells, join-failing, join-done, join-open}
 
--- ---- what a result says
-module _ (p : Profile) (acc : Accepted p) (start most : ℕ) (x : List ℕ) (within : start ≤ sets (p .n) (p .k)) where
-  open Profile p using (n, k)
+-- ---- the call: where it is not refused its answer is done, with the number of sets looked at
+survey-decided : (p : Profile) (start : ℕ) (x : List ℕ) → Decided (surveyTests p start x) (surveySentences p start x)
+unfolding surveyTests surveySentences
+survey-decided p start x =
+    line refl (decides-lt (sets (p .n) (p .k)) start)
+    (λ h. line refl (decides-not _ (decides-eq (length x) (p .k))) (λ l. none))
 
-  abbrev looked : ℕ
-  looked = lookedAt p start most
+module _ (p : Numbers) (start most : ℕ) (x : List ℕ) where
+  abbrev answerOf : Surveyed × List ℕ → Answer × List ℕ
+  answerOf s = (surveyAnswer (s .0), s .1)
 
-  abbrev found : ℕ
-  found = foundFrom p start most
+  abbrev lookedAfter : Profile → ℕ
+  lookedAfter q = answerValue (surveyAnswer (resultOf q start most x .0))
 
-  is-first : First (failsAt p) start (lookedAt p start most) (foundFrom p start most)
-  unfolding foundFrom
-  is-first = first-found (failsAt p) start (lookedAt p start most)
+  told : answerOf (surveyOf p start most x)
+      ≡ onAccepted p (λ r. (answers.Refused r, x))
+      (λ q. tried (surveyTests q start x) (λ r. (answers.Refused r, x))
+      (answers.Done (lookedAfter q), resultOf q start most x .1))
+  unfolding surveyOf surveyWith surveyAnswer answerValue
+  told =
+      on-accepted-map answerOf p (λ r. (Refused r, x)) (λ q. surveyWith q start most x)
+      ∙ on-accepted-same p (λ r. (answers.Refused r, x)) _ _
+      (λ acc. tried-map answerOf (surveyTests (profileOf p) start x) _ (resultOf (profileOf p) start most x)
+      ∙ ap (λ (a : Answer). tried (surveyTests (profileOf p) start x) (λ r. (answers.Refused r, x))
+      (a, resultOf (profileOf p) start most x .1)) is-done)
+    where
+      is-done : surveyAnswer (resultOf (profileOf p) start most x .0) ≡ answers.Done (lookedAfter (profileOf p))
+      is-done =
+          by-result (profileOf p) start most x
+          (λ s. surveyAnswer (s .0) ≡ answers.Done (answerValue (surveyAnswer (s .0))))
+          (λ h. refl) (λ h e. refl) (λ h e. refl)
 
-  -- no set before the one that was found fails
-  none-before : (to : ℕ) → to ≤ sets n k → to ≤ foundFrom p start most → NoneFails p start to
-  none-before to inside early pos low high fails =
-      false≢true
-      (sym (is-first .before pos low (omega arith)) ∙ decides-fails p acc pos (omega arith) .1 fails)
-
-  result-tells : Tells p start most x (resultOf p start most x)
-  result-tells =
-      by-result p start most x (Tells p start most x)
-      (λ h.
-      let below : found < sets n k = omega arith in
-      failing (is-first .low) below (decides-fails p acc found below .0 (is-first .holds h))
-      (none-before found (omega arith) (omega arith)) (omega (arith, is-first .low))
-      (omega (arith, is-first .low)))
-      (λ h e. done (none-before (sets n k) (omega arith) (omega arith)) e (omega arith))
-      (λ h e.
-      let all : looked ≡ most = omega arith in
-      subst (λ (m : ℕ). Tells p start most x (Open m, x)) (sym all)
-      (opened (none-before (start + most) (omega arith) (omega arith))
-      (omega arith)))
+  pub demand-1-survey : Demand1Survey p start most x
+  unfolding surveySentences numberOf indexOf
+  demand-1-survey =
+      rw told
+      (call-for p x (λ q. surveyTests q start x) (λ q. surveySentences q start x) lookedAfter
+      (λ q. resultOf q start most x .1) (λ acc. survey-decided _ start x) refl .exactly)
 
 -- ---- a survey is refused, whatever the number of sets to look at, or it is allowed
 record Allowed (p : Numbers) (start : ℕ) (x : List ℕ) : Type 0 where
@@ -124,7 +99,6 @@ record Allowed (p : Numbers) (start : ℕ) (x : List ℕ) : Type 0 where
 abbrev AlwaysRefused : Numbers → ℕ → List ℕ → Type 0
 AlwaysRefused p start x = (r : Refusal) × ((most : ℕ) → surveyOf p start most x ≡ (Refused r, x))
 
--- a survey with an accepted profile, by its own tests
 module _ (p : Numbers) (start : ℕ) (x : List ℕ) where
   abbrev own : List Sentence
   own = surveySentences (profileOf p) start x
@@ -136,49 +110,42 @@ module _ (p : Numbers) (start : ℕ) (x : List ℕ) where
   survey-tried most = one-list p (λ r. (Refused r, x)) (λ q. surveyTests q start x) (λ q. resultOf q start most x)
 
   tests-decided : Decided (profileTests p ++ surveyTests (profileOf p) start x) (profileSentences p ++ own)
-  tests-decided = demand-1-survey p start 0 x .decided
+  tests-decided = profile-decided p (λ acc. survey-decided _ start x)
 
   allowed-result : (most : ℕ) → Allowed p start x → surveyOf p start most x ≡ resultOf (profileOf p) start most x
   unfolding surveySentences
   allowed-result most A =
+      let below : sets (p .n) (p .k) < start → ⊥ = λ m. omega (arith, A .within) in
       survey-tried most
-      ∙ tried-through _ _ tests-decided
-      (first-nowhere _
-      (fails-append (profileSentences p) own (accepted-fails p (A .profile))
-      ((λ m. omega (arith, A .within)), ((λ m. m (A .room)), tt))))
+      ∙ tried-through _ _ tests-decided (only-append (accepted-none p (A .profile)) (search line-by-line))
 
   refused-or-allowed : AlwaysRefused p start x ⊎ Allowed p start x
   unfolding surveySentences
   refused-or-allowed = go (first-or-none tests-decided)
     where
-      go : ((r : Refusal) × FirstOf (profileSentences p ++ own) r)
-          ⊎ ((r : Refusal) → FirstOf (profileSentences p ++ own) r → ⊥)
-          → AlwaysRefused p start x ⊎ Allowed p start x
-      go (inl (r, first)) = inl (r, λ most. survey-tried most ∙ tried-stops _ _ tests-decided r first)
-      go (inr nowhere) =
+      go : FirstOrNone (profileSentences p ++ own) → AlwaysRefused p start x ⊎ Allowed p start x
+      go (inl (r, first)) = inl (r, λ most. survey-tried most ∙ tried-stops _ _ tests-decided first)
+      go (inr f) =
           inr (record {
-            profile = nowhere-accepted p own nowhere;
+            profile = past-profile p f .0;
             within = decided _ (decides-le start (sets (p .n) (p .k)))
                 (λ n. let m : sets (p .n) (p .k) < start = omega arith in refuted {r = OutOfRange} (search by-name));
             room = decided _ (decides-eq (length x) (p .k)) (λ n. refuted {r = BufferLength} (search by-name));
           })
         where
           refuted : {r : Refusal} → Holds own r → ⊥
-          refuted h = none-holds nowhere (holds-right (profileSentences p) h)
+          refuted h = held (past-profile p f .1) h
 
 -- ---- the demands
 -- A survey that is not refused says what holds of the sets.
 survey-tells : SurveyTells
-unfolding surveyAnswer
+unfolding surveyAnswer answerNumber
 survey-tells p start most x e = go (refused-or-allowed p start x)
   where
     go : AlwaysRefused p start x ⊎ Allowed p start x
         → Tells (profileOf p) start most x (surveyOf p start most x)
     go (inl (r, refused)) =
-        let told : answerNumber (answers.Refused r) ≡ 0 = rw (refused most) at e in
-        let never : answers.Refused r ≡ answers.Done (answerValue (answers.Refused r)) =
-        answered (answers.Refused r) told in
-        absurd (let z : _≡_ {A = ℕ} 0 1 = cc in omega arith)
+        let told : answerNumber (answers.Refused r) ≡ 0 = rw (refused most) at e in absurd (never-zero r told)
     go (inr A) =
         rw (allowed-result p start x most A) (result-tells (profileOf p) (A .profile) start most x (A .within))
 
@@ -201,8 +168,8 @@ all-sets n k = record {
 done-none : (p : Profile) (most looked : ℕ) (x : List ℕ) {outcome : Surveyed × List ℕ} → Tells p 0 most x outcome
     → outcome .0 ≡ Done looked → NoneFails p 0 (sets (p .n) (p .k))
 done-none p most looked x (failing a b f g c d) e = absurd (let z : _≡_ {A = ℕ} 0 1 = cc in omega arith)
-done-none p most looked x (done none a b) e = none
-done-none p most looked x (opened none a) e = absurd (let z : _≡_ {A = ℕ} 0 1 = cc in omega arith)
+done-none p most looked x (done clear a b) e = clear
+done-none p most looked x (opened clear a) e = absurd (let z : _≡_ {A = ℕ} 0 1 = cc in omega arith)
 
 -- so each can be read.
 done-reads-all : DoneReadsAll
@@ -219,71 +186,6 @@ done-reads-all p most looked set e nodes x y form = read-answered p nodes x y fo
     two-nowhere two =
         done-none (profileOf p) most looked set tells e (rankOf 0 (p .n) nodes) (omega arith) (position .0)
         (subst (TwoData (profileOf p)) (sym (position .1)) two)
-
--- ---- two ranges, one after the other
-module _ (p : Profile) (start most more : ℕ) (x : List ℕ) (within : start ≤ sets (p .n) (p .k)) where
-  open Profile p using (n, k)
-
-  -- the numbers of sets looked at in the first, in the second, and in both
-  abbrev first : ℕ
-  first = lookedAt p start most
-
-  abbrev second : ℕ
-  second = lookedAt p (start + most) more
-
-  abbrev both : ℕ
-  both = lookedAt p start (most + more)
-
-  -- a set of the first range fails
-  join-failing : foundFrom p start most < start + lookedAt p start most
-      → resultOf p start (most + more) x ≡ failingAt p start (foundFrom p start most)
-  unfolding foundFrom
-  join-failing h =
-      let more-looked : first ≤ both = omega arith in
-      let e : both ≡ first + (both - first) = omega arith in
-      let same : foundFrom p start (most + more) ≡ foundFrom p start most =
-      ap (firstIn (failsAt p) start) e ∙ first-early (failsAt p) start first (both - first) h in
-      result-failing p start (most + more) x (omega arith) ∙ ap (failingAt p start) same
-
-  -- none does, and none is left
-  join-done : start + lookedAt p start most ≤ foundFrom p start most → start + lookedAt p start most ≡ sets n k
-      → resultOf p start (most + more) x ≡ (Done (lookedAt p start most), x)
-  unfolding foundFrom
-  join-done h e =
-      let same : both ≡ first = omega arith in
-      let found : foundFrom p start (most + more) ≡ foundFrom p start most = ap (firstIn (failsAt p) start) same in
-      result-done p start (most + more) x (omega arith) (omega arith) ∙ cc
-
-  -- none does, and some are left: the second survey goes on
-  join-open : start + most < sets n k → start + lookedAt p start most ≤ foundFrom p start most
-      → resultOf p start (most + more) x
-      ≡ joinedOutcome (Open (lookedAt p start most), x) (resultOf p (start + most) more x)
-  unfolding foundFrom
-  join-open left h =
-      by-result p (start + most) more x
-      (λ t. resultOf p start (most + more) x ≡ joinedOutcome (Open (lookedAt p start most), x) t)
-      (λ l.
-      let added : foundFrom p (start + most) more - start + 1
-      ≡ first + (foundFrom p (start + most) more - (start + most) + 1) =
-      omega (arith, all, first-found (failsAt p) (start + most) second .low) in
-      result-failing p start (most + more) x (omega (arith, same, size)) ∙ ap (failingAt p start) same ∙ cc)
-      (λ l e.
-      let added : both ≡ first + second = omega (arith, all, size) in
-      result-done p start (most + more) x (omega (arith, same, size)) (omega (arith, size)) ∙ cc)
-      (λ l e.
-      let added : both ≡ first + second = omega (arith, all, size) in
-      result-open p start (most + more) x (omega (arith, same, size)) (λ d. e (omega (arith, size))) ∙ cc)
-    where
-      all : first ≡ most
-      all = omega arith
-
-      size : both ≡ most + second
-      size = omega arith
-
-      same : foundFrom p start (most + more) ≡ foundFrom p (start + most) more
-      same =
-          ap (firstIn (failsAt p) start) size
-          ∙ first-late (failsAt p) start most second (omega (arith, all, ap (firstIn (failsAt p) start) all))
 
 -- A survey of two ranges is one survey.
 surveys-join : SurveysJoin

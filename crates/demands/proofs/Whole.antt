@@ -1,5 +1,4 @@
--- A bundle that is not refused is, byte for byte, the one cut from any array with its strips, and was cut for the wanted
--- numbers. Demand 3, whole.
+-- What a message fixes that is as wanted: its field 01, the profile; with its strips, all its bytes.
 use mathlib.Core.Path.{_≡_, sym, ap, ap₂, _∙_}
 use mathlib.Core.List.{List, _∷_}
 use Prim.Native.Nat.{ℕ, zero, suc, _+_, _*_, _-_, _/_, _%_, _≤_, _<_}
@@ -9,59 +8,75 @@ use native.Mathlib.Omega.{arith}
 use lib.ListN.{length, getD, drop}
 use lib.Seq.{ext-getD}
 use Rattle.lists.specs.Put.{slice}
+use Rattle.lists.specs.Each.{Each}
 use Rattle.lists.proofs.Slice.{slice-at}
 use Rattle.fields.specs.Fields.{twoBytes, opening, openingLength}
 use Rattle.document.specs.declared.Numbers.{Numbers}
 use Rattle.document.specs.declared.Profile.{Profile}
-use Rattle.document.specs.declared.Node.{Node}
+use Rattle.document.specs.declared.Place.{Place}
 use Rattle.document.specs.declared.Recording.{Recording}
-use Rattle.document.specs.Profile.{Accepted, profileOf}
-use Rattle.document.specs.Plan.{planned, plannedAt}
-use Rattle.document.specs.Bundle.{
-  recordingBytes,
+use Rattle.document.specs.Profile.{profileOf}
+use Rattle.document.specs.Places.{placeAt}
+use Rattle.document.specs.Message.{
   recordingLength,
   profileContent,
-  lostContent,
-  headLength,
+  profileContentLength,
+  profileFieldLength,
   stripFieldLength,
-  bundleLength,
-  bundleOf,
-  stripFieldStart,
+  headLength,
+  messageLength,
+  messageOf,
   placeIn,
   recordingIn,
   stripIn,
+  stripFieldStart,
 }
-use Rattle.document.proofs.Bundle.{bundle-length}
-use Rattle.document.proofs.Cut.{cut-first, cut-second, cut-opening, cut-place, cut-recording, cut-strip}
-use Rattle.demands.specs.Refusals.{Headed}
-use Rattle.demands.specs.Rebuild.{HasStrips, NotRefused, CutForWanted, WholeBundle}
-use Rattle.demands.specs.Demand3.{Demand3}
-use Rattle.demands.proofs.Demand1.{length-is, opening-is}
-use Rattle.demands.proofs.Demand3.{
-  demand-3-places,
-  demand-3-walk,
-  demand-3-plan,
-  fits,
-  one-column,
-  acc,
-  below,
-  is-formed,
-  is-headed,
-  is-placed,
-  is-fresh,
-  demand-3-rebuild,
-  same-strips,
-  same-answer,
-  cut-accepted,
-  headed-cut,
-  demand-3-write,
-  cut-is,
-  cut-passes,
-  same-column,
-  same-bundle,
-  cut-column,
-  cut-rebuilds,
+use Rattle.document.proofs.Message.{
+  Whole,
+  message-length,
+  written-first,
+  written-second,
+  written-opening,
+  written-place,
+  written-recording,
+  written-strip,
 }
+use Rattle.demands.specs.Message.{Headed}
+use Rattle.demands.proofs.Message.{length-is, opening-is, AsWanted}
+
+-- ---- the profile
+two-bytes : (a b : ℕ) → a ≤ 512 → b ≤ 512 → twoBytes a ≡ twoBytes b → a ≡ b
+unfolding twoBytes
+two-bytes a b l m e =
+    let high : a / 256 % 256 ≡ b / 256 % 256 = ap (λ (v : List ℕ). getD v 0 0) e in
+    let low : a % 256 ≡ b % 256 = ap (λ (v : List ℕ). getD v 1 0) e in
+    omega (arith, high, low)
+
+-- numbers with the same content of field 01
+contentOf : Numbers → List ℕ
+contentOf p = p .n ∷ p .k ∷ p .a ∷ p .t ∷ twoBytes (p .s)
+
+same-numbers : (p q : Numbers) → p .s ≤ 512 → q .s ≤ 512 → contentOf p ≡ contentOf q → p ≡ q
+unfolding contentOf
+same-numbers p q l m e =
+    let n : p .n ≡ q .n = ap (λ (v : List ℕ). getD v 0 0) e in
+    let k : p .k ≡ q .k = ap (λ (v : List ℕ). getD v 1 0) e in
+    let a : p .a ≡ q .a = ap (λ (v : List ℕ). getD v 2 0) e in
+    let t : p .t ≡ q .t = ap (λ (v : List ℕ). getD v 3 0) e in
+    let s : p .s ≡ q .s = two-bytes (p .s) (q .s) l m (ap (drop 4) e) in
+    ap (λ (v : ℕ). made v (p .k) (p .a) (p .t) (p .s)) n
+    ∙ ap (λ (v : ℕ). made (q .n) v (p .a) (p .t) (p .s)) k
+    ∙ ap (λ (v : ℕ). made (q .n) (q .k) v (p .t) (p .s)) a
+    ∙ ap₂ (λ (v w : ℕ). made (q .n) (q .k) (q .a) v w) t s
+  where
+    made : ℕ → ℕ → ℕ → ℕ → ℕ → Numbers
+    made n k a t s = record { n = n; k = k; a = a; t = t; s = s }
+
+-- one message is not headed for two profiles
+pub head-fixes : (p q : Numbers) {m w : ℕ} {c d b : List ℕ} → p .s ≤ 512 → q .s ≤ 512 → Headed (profileOf p) m c b
+    → Headed (profileOf q) w d b → p ≡ q
+unfolding contentOf
+head-fixes p q small short H K = same-numbers p q small short (sym (H .field-01) ∙ K .field-01)
 
 -- ---- lists alike at the indices of a range
 module _ (x y : List ℕ) where
@@ -98,161 +113,89 @@ module _ (x y : List ℕ) where
       (alike-parts from width n (λ i l. parts i (omega arith)))
       (λ e low high. parts n (omega arith) e low (omega (arith, suc-mul n width)))
 
--- ---- the bundle
-module _ (p : Numbers) (f : ℕ) (r : Recording) (b y x : List ℕ) (e : NotRefused p f r b y)
-    (size : length x ≡ p .n * p .a * p .s)
-    (has : HasStrips (profileOf p) (planned (profileOf p) (record { 0 = f })) x (stripIn (profileOf p) b)) where
-  abbrev profile : Profile
-  profile = profileOf p
-
-  abbrev lost : Node
-  lost = record { 0 = f }
-
-  abbrev cut : List ℕ
-  cut = bundleOf profile lost r x
-
-  accepted : Accepted profile
-  accepted = acc p f r b y e
-
-  within : f < p .n
-  within = below p f r b y e
+-- ---- all its bytes: it is the message written with its strips
+module _ (p : Profile) (content : List ℕ) (r : Recording) (strips : Place → List ℕ) {qs : List Place} (b : List ℕ)
+    (whole : Each (Whole r strips (p .s)) qs) (w : AsWanted p content r qs b)
+    (has : (i : ℕ) → i < length qs → strips (placeAt qs i) ≡ stripIn (p .s) b (stripFieldStart p (length content) i)) where
+  abbrev written : List ℕ
+  written = messageOf p content r strips qs
 
   abbrev AlikeIn : ℕ → ℕ → Type 0
-  AlikeIn = Alike b cut
+  AlikeIn = Alike b written
 
   -- fields 01 and 02
-  head : AlikeIn 0 headLength
-  unfolding opening twoBytes profileContent lostContent recordingBytes
-  head =
-      alike-join b cut 0 9 17
-      (alike-join b cut 0 3 9
-      (alike-slice b cut 0 3
-      (is-formed p f r b y e .field-01 ∙ sym (cut-first profile accepted r x size lost within .0)))
-      (alike-slice b cut 3 6
-      (is-headed p f r b y e .field-01 ∙ sym (cut-first profile accepted r x size lost within .1))))
-      (alike-join b cut 9 12 17
-      (alike-slice b cut 9 3
-      (is-formed p f r b y e .field-02 ∙ sym (cut-second profile accepted r x size lost within .0)))
-      (alike-slice b cut 12 5
-      (is-headed p f r b y e .field-02 ∙ sym (cut-second profile accepted r x size lost within .1))))
+  first : AlikeIn 0 (profileFieldLength p)
+  unfolding opening twoBytes profileContent
+  first =
+      alike-join b written 0 openingLength (profileFieldLength p)
+      (alike-slice b written 0 openingLength (w .is-formed .field-01 ∙ sym (written-first p content r strips whole .0)))
+      (alike-slice b written openingLength (profileContentLength p)
+      (w .is-headed .field-01 ∙ sym (written-first p content r strips whole .1)))
 
-  module _ (i : ℕ) (l : i < length (planned profile lost)) where
+  second : AlikeIn (profileFieldLength p) (headLength p (length content))
+  unfolding opening
+  second =
+      alike-join b written (profileFieldLength p) (profileFieldLength p + openingLength) _
+      (alike-slice b written (profileFieldLength p) openingLength
+      (w .is-formed .field-02 ∙ sym (written-second p content r strips whole .0)))
+      (λ o low high. alike-slice b written (profileFieldLength p + openingLength) (length content)
+      (w .is-headed .field-02 ∙ sym (written-second p content r strips whole .1)) o low (omega arith))
+
+  module _ (i : ℕ) (l : i < length qs) where
     abbrev at : ℕ
-    at = stripFieldStart profile i
+    at = stripFieldStart p (length content) i
 
-    abbrev content : ℕ
-    content = at + openingLength
+    abbrev past : ℕ
+    past = at + openingLength
 
-    opens : AlikeIn at content
+    opens : AlikeIn at past
     unfolding opening twoBytes
     opens =
-        alike-slice b cut at openingLength
-        (opening-is profile b i ∙ is-formed p f r b y e .fields-03 i l
-        ∙ sym (cut-opening profile accepted r x size lost within i l))
+        alike-slice b written at openingLength
+        (opening-is p (length content) b i ∙ w .is-formed .fields-03 i l
+        ∙ sym (written-opening p content r strips whole i l))
 
-    same-place : placeIn profile b i ≡ placeIn profile cut i
-    same-place = is-placed p f r b y e i l ∙ sym (cut-place profile accepted r x size lost within i l)
+    same-place : placeIn b at ≡ placeIn written at
+    same-place = w .is-placed i l ∙ sym (written-place p content r strips whole i l)
 
-    node : AlikeIn content (content + 1)
+    node : AlikeIn past (past + 1)
     unfolding placeIn
-    node = alike-entry b cut content (ap (λ q. q .node .0) same-place)
+    node = alike-entry b written past (ap (λ q. q .node .0) same-place)
 
-    row : AlikeIn (content + 1) (content + 2)
+    row : AlikeIn (past + 1) (past + 2)
     unfolding placeIn
-    row o low high = alike-entry b cut (content + 1) (ap (λ q. q .row .0) same-place) o low (omega arith)
+    row o low high = alike-entry b written (past + 1) (ap (λ q. q .row .0) same-place) o low (omega arith)
 
-    recording : AlikeIn (content + 2) (content + 2 + recordingLength)
+    recording : AlikeIn (past + 2) (past + 2 + recordingLength)
     unfolding recordingIn
     recording =
-        alike-slice b cut (content + 2) recordingLength
-        (is-fresh p f r b y e i l ∙ sym (cut-recording profile accepted r x size lost within i l))
+        alike-slice b written (past + 2) recordingLength
+        (w .is-fresh i l ∙ sym (written-recording p content r strips whole i l))
 
-    strip : AlikeIn (content + 2 + recordingLength) (content + 2 + recordingLength + p .s)
-    unfolding stripIn plannedAt
+    strip : AlikeIn (past + 2 + recordingLength) (past + 2 + recordingLength + p .s)
+    unfolding stripIn
     strip =
-        alike-slice b cut (content + 2 + recordingLength) (p .s)
-        (sym (has i l) ∙ sym (cut-strip profile accepted r x size lost within i l))
+        alike-slice b written (past + 2 + recordingLength) (p .s)
+        (sym (has i l) ∙ sym (written-strip p content r strips whole i l))
 
     -- the field 03 of strip i
-    strip-field : AlikeIn (headLength + i * stripFieldLength (p .s))
-        (headLength + i * stripFieldLength (p .s) + stripFieldLength (p .s))
+    strip-field : AlikeIn (headLength p (length content) + i * stripFieldLength (p .s))
+        (headLength p (length content) + i * stripFieldLength (p .s) + stripFieldLength (p .s))
     unfolding stripFieldStart
     strip-field =
-        alike-join b cut at content _ opens
-        (alike-join b cut content (content + 1) _ node
-        (alike-join b cut (content + 1) (content + 2) _ row
-        (alike-join b cut (content + 2) (content + 2 + recordingLength) _ recording
+        alike-join b written at past _ opens
+        (alike-join b written past (past + 1) _ node
+        (alike-join b written (past + 1) (past + 2) _ row
+        (alike-join b written (past + 2) (past + 2 + recordingLength) _ recording
         (λ o low high. strip o low (omega arith)))))
 
-  whole : b ≡ cut
-  whole =
-      ext-getD 0 b cut (total ∙ sym (bundle-length profile r x accepted size lost within))
-      (λ o m. alike-join b cut 0 headLength (bundleLength profile lost) head
-      (alike-parts b cut headLength (stripFieldLength (p .s)) (length (planned profile lost)) strip-field)
-      o (omega arith) (omega (arith, total)))
+  pub all-fixed : b ≡ messageOf p content r strips qs
+  all-fixed =
+      let h : ℕ = headLength p (length content) in
+      ext-getD 0 b written (total ∙ sym (message-length p content r strips whole))
+      (λ o m. alike-join b written 0 h (messageLength p (length content) (length qs))
+      (alike-join b written 0 (profileFieldLength p) h first second)
+      (alike-parts b written h (stripFieldLength (p .s)) (length qs) strip-field) o (omega arith) (omega (arith, total)))
     where
-      total : length b ≡ bundleLength profile lost
-      total = is-formed p f r b y e .total ∙ sym (length-is profile lost)
-
-pub whole-bundle : (p : Numbers) (f : ℕ) → WholeBundle p f
-whole-bundle p f r b y x e size has = whole p f r b y x e size has
-
--- ---- a bundle cut for other numbers
-two-bytes : (a b : ℕ) → a ≤ 512 → b ≤ 512 → twoBytes a ≡ twoBytes b → a ≡ b
-unfolding twoBytes
-two-bytes a b l m e =
-    let high : a / 256 % 256 ≡ b / 256 % 256 = ap (λ (v : List ℕ). getD v 0 0) e in
-    let low : a % 256 ≡ b % 256 = ap (λ (v : List ℕ). getD v 1 0) e in
-    omega (arith, high, low)
-
--- numbers with the same content of field 01
-contentOf : Numbers → List ℕ
-contentOf p = p .n ∷ p .k ∷ p .a ∷ p .t ∷ twoBytes (p .s)
-
-same-numbers : (p q : Numbers) → p .s ≤ 512 → q .s ≤ 512 → contentOf p ≡ contentOf q → p ≡ q
-unfolding contentOf
-same-numbers p q l m e =
-    let n : p .n ≡ q .n = ap (λ (v : List ℕ). getD v 0 0) e in
-    let k : p .k ≡ q .k = ap (λ (v : List ℕ). getD v 1 0) e in
-    let a : p .a ≡ q .a = ap (λ (v : List ℕ). getD v 2 0) e in
-    let t : p .t ≡ q .t = ap (λ (v : List ℕ). getD v 3 0) e in
-    let s : p .s ≡ q .s = two-bytes (p .s) (q .s) l m (ap (drop 4) e) in
-    ap (λ (v : ℕ). made v (p .k) (p .a) (p .t) (p .s)) n
-    ∙ ap (λ (v : ℕ). made (q .n) v (p .a) (p .t) (p .s)) k
-    ∙ ap (λ (v : ℕ). made (q .n) (q .k) v (p .t) (p .s)) a
-    ∙ ap₂ (λ (v w : ℕ). made (q .n) (q .k) (q .a) v w) t s
-  where
-    made : ℕ → ℕ → ℕ → ℕ → ℕ → Numbers
-    made n k a t s = record { n = n; k = k; a = a; t = t; s = s }
-
-pub cut-for-wanted : (p : Numbers) (f : ℕ) → CutForWanted p f
-unfolding contentOf
-cut-for-wanted p f q g x r u b y cut e = (
-  same-numbers q p (cut-accepted q g r x (cut .lent) (cut .not-refused) .short) (acc p f u b y e .short)
-      (sym (found .field-01) ∙ is-headed p f u b y e .field-01),
-  ap (λ (v : List ℕ). getD v 0 0) (sym (found .field-02) ∙ is-headed p f u b y e .field-02),
-)
-  where
-    found : Headed (profileOf q) (record { 0 = g }) r b
-    found = rw (cut-is q g x r b cut) (headed-cut q g r x (cut .lent) (cut .not-refused))
-
--- Demand 3, whole.
-pub demand-3 : Demand3
-demand-3 = record {
-  places = demand-3-places;
-  walk = demand-3-walk;
-  plan = demand-3-plan;
-  fits = fits;
-  one-column = one-column;
-  rebuild = demand-3-rebuild;
-  same-strips = same-strips;
-  same-bundle = same-bundle;
-  same-column = same-column;
-  cut-for-wanted = cut-for-wanted;
-  same-answer = same-answer;
-  write = demand-3-write;
-  cut-passes = cut-passes;
-  cut-column = cut-column;
-  cut-rebuilds = cut-rebuilds;
-  whole-bundle = whole-bundle;
-}
+      total : length b ≡ messageLength p (length content) (length qs)
+      total = w .is-formed .total ∙ sym (length-is p (length content) (length qs))

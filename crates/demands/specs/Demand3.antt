@@ -1,13 +1,12 @@
--- Demand 3, whole: each clause and the statement that says it. Shown in proofs/Whole.antt: demand-3.
+-- Demand 3, whole: each clause and the statement that says it. Shown in proofs/Demand3.antt: demand-3.
 --
 -- Demand3 : demand 3
 use Prim.Native.Nat.{ℕ}
 use Rattle.document.specs.declared.Numbers.{Numbers}
 use Rattle.demands.specs.Plan.{Demand3Places, Demand3Walk, Demand3Plan}
+use Rattle.demands.specs.Strips.{Fits, OneColumn}
+use Rattle.demands.specs.Bundle.{Demand3Write}
 use Rattle.demands.specs.Rebuild.{
-  Fits,
-  OneColumn,
-  Demand3Write,
   Demand3Rebuild,
   SameStrips,
   SameColumn,
@@ -34,8 +33,8 @@ pub record Demand3 : Type 0 where
   -- 'No byte elsewhere, old or new, changes the rebuild.'
   pub same-strips : (p : Numbers) (f : ℕ) → SameStrips p f
   pub same-bundle : (p : Numbers) (f : ℕ) → SameBundle p f
-  -- 'Take any two stored arrays alike at the planned places, ..: rebuilds from bundles cut from them, where not refused,
-  -- write the same column, ..'
+  -- 'Take any two stored arrays alike at the planned places, ..: rebuilds from bundles cut from them, where not
+  -- refused, write the same column, ..'
   pub same-column : (p : Numbers) (f : ℕ) → SameColumn p f
   pub cut-for-wanted : (p : Numbers) (f : ℕ) → CutForWanted p f
   -- 'Any two rebuilds given equal bundles, the same wanted numbers and buffers of equal length give the same answer'

@@ -1,9 +1,11 @@
--- Demand 2, first sentence: 'Encoding writes the array that document 01 defines.'
+-- Encoding: when it is refused, and demand 2, first sentence: 'Encoding writes the array that document 01 defines.'
 --
--- DocumentArray p d x : x is the array that document 01 defines for the data d, in the profile p
--- OneArray            : it is the only one
--- Demand2Encode       : encoding that is not refused writes it
--- Shown in proofs/Demand2.antt: one-array, demand-2-encode.
+-- encodeSentences p d x : the lines for encoding the data d into x, past those of a profile
+-- Demand1Encode p d x   : encoding refuses as they say                                              demand-1-encode
+-- DocumentArray p d x   : x is the array that document 01 defines for the data d, in the profile p
+-- OneArray              : it is the only one                                                        one-array
+-- Demand2Encode         : encoding that is not refused writes it                                    demand-2-encode
+-- Shown in proofs/Encoding.antt, under the name beside each.
 --
 -- In it b is a byte offset of a strip, i a row, j a node, j % A its local column l. The words it uses:
 -- byteAt p x b q : byte b of the strip at the place q of the array or data x
@@ -12,7 +14,7 @@
 -- byte j         : the field element with the number j
 -- eval bytes c z : the value at z of the polynomial with the coefficients c, constant term first
 use mathlib.Core.Path.{_≡_}
-use mathlib.Core.List.{List}
+use mathlib.Core.List.{List, [], _∷_}
 use Prim.Native.Nat.{ℕ, _*_, _%_, _≤_, _<_}
 use lib.ListN.{length}
 use Rattle.algebra.specs.Field.{Field}
@@ -20,15 +22,31 @@ use Rattle.algebra.specs.Polynomial.{eval}
 use Rattle.document.specs.declared.Numbers.{Numbers}
 use Rattle.document.specs.declared.Profile.{Profile}
 use Rattle.document.specs.declared.Place.{Place}
+use Rattle.document.specs.declared.Refusal.the-variants.{BufferLength}
 use Rattle.document.specs.Refusals.{answerNumber, answerValue}
 use Rattle.document.specs.Places.{place, partnerOf}
 use Rattle.document.specs.Bytes.{bytes, Byte, byte}
 use Rattle.document.specs.Profile.{Accepted, profileOf}
-use Rattle.document.specs.Encoding.{byteAt, Stored, encodeOf}
+use Rattle.document.specs.Encoding.{byteAt, Stored, encodeTests, encodeOf}
+use Rattle.demands.specs.Tables.{Sentence}
+use Rattle.demands.specs.Profile.{Demand1For}
 
 infixl 65 _⊕_
 infixl 70 _⊗_
 open Field bytes using (add as _⊕_, mul as _⊗_)
+
+-- 5: 'a lent buffer .. has the wrong length': data have kAS bytes, an array nAS.
+unfoldable pub encodeSentences : Profile → List ℕ → List ℕ → List Sentence
+encodeSentences p d x =
+    record {
+      refusal = BufferLength;
+      says = (length d ≡ p .k * p .a * p .s) × (length x ≡ p .n * p .a * p .s) → ⊥;
+    }
+    ∷ []
+
+abbrev pub Demand1Encode : Numbers → List ℕ → List ℕ → Type 1
+Demand1Encode p d x =
+    Demand1For p (λ q. encodeTests q d x) (λ q. encodeSentences q d x) ((5, 0) ∷ []) x (encodeOf p d x)
 
 module _ (p : Profile) (d x : List ℕ) where
   open Profile p using (n, k, a as A, t, s as S)

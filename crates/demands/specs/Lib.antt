@@ -1,8 +1,13 @@
-pub mod Refusals
+pub mod Tables
+pub mod Profile
 pub mod Encoding
 pub mod Plan
+pub mod Strips
+pub mod Message
+pub mod Bundle
 pub mod Rebuild
-pub mod Program
-pub mod Demand3
 pub mod Reading
 pub mod Survey
+pub mod Program
+pub mod Demand1
+pub mod Demand3

@@ -1,18 +1,20 @@
--- Demand 3, first sentences: 'For every accepted profile .. and every dead drive, the plan names the places that its
--- steps in document 01 list, in that order: distinct places, none on the dead drive. Their number is the one the plan,
--- where not refused, answers with, and it equals the formula there.'
+-- Planning: when it is refused, and demand 3, first sentences: 'For every accepted profile .. and every dead drive,
+-- the plan names the places that its steps in document 01 list, in that order: distinct places, none on the dead drive.
+-- Their number is the one the plan, where not refused, answers with, and it equals the formula there.'
 --
--- PlannedPlaces p f qs : the places qs are distinct places of the array, none is on f, and their number is the formula's
--- Demand3Places        : so they are over any walk that goes over each candidate once
--- Demand3Walk          : document 01's walk is one such, and `planned` is the plan over it
+-- planSentences p f x  : the lines for planning the rebuild of node f into x, past those of a profile
+-- Demand1Plan p f x    : planning refuses as they say                                              demand-1-plan
+-- PlannedPlaces p f qs : the places qs are distinct places of the array, none on f, and their number is the formula's
+-- Demand3Places        : so they are over any walk that goes over each candidate once              demand-3-places
+-- Demand3Walk          : document 01's walk is one such, and `planned` is the plan over it         demand-3-walk
 -- NamedPlaces p f x    : what planning the rebuild of node f into x leaves and answers
--- Demand3Plan          : where planning is not refused, it names the planned places
--- Shown in proofs/Demand3.antt: demand-3-places, demand-3-walk, demand-3-plan.
+-- Demand3Plan          : where planning is not refused, it names the planned places                demand-3-plan
+-- Shown in proofs/Plan.antt, under the name beside each.
 --
 -- `planOver` in document/specs/Plan.antt is the list of the steps, over a walk: the nodes that each step goes over.
 use mathlib.Core.Path.{_≡_}
 use mathlib.Core.Logic.{_≢_}
-use mathlib.Core.List.{List, _++_}
+use mathlib.Core.List.{List, [], _∷_, _++_}
 use Prim.Native.Nat.{ℕ, _*_, _<_}
 use lib.ListN.{length, drop}
 use Rattle.lists.specs.Each.{Each, Distinct}
@@ -20,10 +22,25 @@ use Rattle.document.specs.declared.Numbers.{Numbers}
 use Rattle.document.specs.declared.Profile.{Profile}
 use Rattle.document.specs.declared.Node.{Node}
 use Rattle.document.specs.declared.Place.{Place}
+use Rattle.document.specs.declared.Refusal.the-variants.{OutOfRange, BufferLength}
 use Rattle.document.specs.Refusals.{answerNumber, answerValue}
 use Rattle.document.specs.Profile.{Accepted, profileOf}
 use Rattle.document.specs.Places.{Within}
-use Rattle.document.specs.Plan.{Walk, Complete, walkOf, planOver, planned, priceOf, planBytes, planOf}
+use Rattle.document.specs.Plan.{Walk, Complete, walkOf, planOver, planned, priceOf, planBytes, planTests, planOf}
+use Rattle.demands.specs.Tables.{Sentence}
+use Rattle.demands.specs.Profile.{Demand1For}
+
+-- 4: 'lost node not below n'. 5: 'a lent buffer .. has the wrong length (plan: too short)', two bytes a place.
+unfoldable pub planSentences : Profile → Node → List ℕ → List Sentence
+planSentences p f x =
+    record { refusal = OutOfRange; says = f .0 < p .n → ⊥ }
+    ∷ record { refusal = BufferLength; says = length x < 2 * length (planned p f) }
+    ∷ []
+
+abbrev pub Demand1Plan : Numbers → ℕ → List ℕ → Type 1
+Demand1Plan p f x =
+    let lost : Node = record { 0 = f } in
+    Demand1For p (λ q. planTests q lost x) (λ q. planSentences q lost x) ((4, 0) ∷ (5, 0) ∷ []) x (planOf p f x)
 
 pub record PlannedPlaces (p : Profile) (f : Node) (qs : List Place) : Type 0 where
   -- 'Nodes and rows count from 0.'

@@ -8,7 +8,7 @@
 -- lent input          : the column that the program lends to the rebuild
 -- own input           : the lines of that rebuild past those of the profile
 -- table input         : its table
--- ProgramWrites input : the column where the rebuild is not refused, otherwise the line of the first refusal, never of 5
+-- ProgramWrites input : the column where the rebuild is not refused, otherwise the line of its first refusal; never 5
 -- Demand1Program      : so it is for all inputs
 -- Shown in proofs/Program.antt: demand-1-program.
 use mathlib.Core.Path.{_≡_}
@@ -22,8 +22,9 @@ use Rattle.document.specs.declared.Refusal.the-variants.{BufferLength}
 use Rattle.document.specs.Profile.{profileOf}
 use Rattle.document.specs.Rebuild.{rebuildOf}
 use Rattle.document.specs.Program.{programHead, wantedNumbers, wantedNode, wantedRecording, lineOf, programOf}
-use Rattle.demands.specs.Refusals.{Sentence, FirstOf, profileSentences, rebuildSentences}
-use Rattle.demands.specs.Rebuild.{NotRefused}
+use Rattle.demands.specs.Tables.{Sentence, FirstOf}
+use Rattle.demands.specs.Profile.{profileSentences}
+use Rattle.demands.specs.Rebuild.{rebuildSentences, NotRefused}
 
 module _ (input : List ℕ) where
   abbrev pub wanted : Numbers

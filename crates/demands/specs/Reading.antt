@@ -1,10 +1,15 @@
--- Demand 2, the rest: 'Reading back from k named drives returns the only data whose array has those columns. A request in
--- due form is refused exactly when some two different data sets give equal columns on those drives.'
+-- Reading back: when it is refused, and demand 2, the rest: 'Reading back from k named drives returns the only data
+-- whose array has those columns. A request in due form is refused exactly when some two different data sets give equal
+-- columns on those drives.'
 --
+-- readSentences p nodes x y : the lines for reading the columns x of the named nodes back into y, past those of a
+--                             profile
+-- Demand1Read p nodes x y   : reading back refuses as they say                                      demand-1-read
 -- InDueForm p nodes x y     : the request is in due form: profile, list and lengths
 -- OnlyData p nodes x d      : d are data whose array has the columns x on the named nodes, and no other data have them
 -- ReadsOnlyData p nodes x y : what demand 2 says of one call, for the columns x and the buffer y
--- Demand2Reading            : for all numbers, lists and bytes. Shown in proofs/Demand2Reading.antt: demand-2-reading
+-- Demand2Reading            : for all numbers, lists and bytes                                      demand-2-reading
+-- Shown in proofs/Reading.antt, under the name beside each.
 --
 -- The words it uses, from document/specs/Reading.antt and, the last, ksets/specs/Sets.antt:
 -- joinedColumns p nodes x : the columns of the array x at the named nodes, joined in list order
@@ -12,16 +17,36 @@
 -- Rising n k nodes        : nodes are k strictly rising numbers below n
 use mathlib.Core.Path.{_≡_}
 use mathlib.Core.Logic.{_↔_}
-use mathlib.Core.List.{List}
+use mathlib.Core.List.{List, [], _∷_}
 use Prim.Native.Nat.{ℕ, _*_, _<_}
 use lib.ListN.{length, getD}
 use Rattle.ksets.specs.Sets.{Rising}
 use Rattle.document.specs.declared.Numbers.{Numbers}
 use Rattle.document.specs.declared.Profile.{Profile}
+use Rattle.document.specs.declared.Refusal.the-variants.{OutOfRange, BufferLength, Ambiguous}
 use Rattle.document.specs.Refusals.{answerNumber, answerValue}
 use Rattle.document.specs.Profile.{Accepted, profileOf}
 use Rattle.document.specs.Encoding.{Data, encoded}
-use Rattle.document.specs.Reading.{joinedColumns, TwoData, readOf}
+use Rattle.document.specs.Reading.{joinedColumns, TwoData, readTests, readOf}
+use Rattle.demands.specs.Tables.{Sentence}
+use Rattle.demands.specs.Profile.{Demand1For}
+
+-- 4: 'node list not k strictly rising numbers below n'. 5: columns and data have kAS bytes each. 10: 'some two
+-- different data give equal columns on these nodes'.
+unfoldable pub readSentences : Profile → List ℕ → List ℕ → List ℕ → List Sentence
+readSentences p nodes x y =
+    record { refusal = OutOfRange; says = Rising (p .n) (p .k) nodes → ⊥ }
+    ∷ record {
+      refusal = BufferLength;
+      says = (length x ≡ p .k * p .a * p .s) × (length y ≡ p .k * p .a * p .s) → ⊥;
+    }
+    ∷ record { refusal = Ambiguous; says = TwoData p nodes }
+    ∷ []
+
+abbrev pub Demand1Read : Numbers → List ℕ → List ℕ → List ℕ → Type 1
+Demand1Read p nodes x y =
+    Demand1For p (λ q. readTests q nodes x y) (λ q. readSentences q nodes x y) ((4, 0) ∷ (5, 0) ∷ (10, 0) ∷ []) y
+    (readOf p nodes x y)
 
 -- None of the refusals 1 to 5 applies.
 pub record InDueForm (p : Numbers) (nodes x y : List ℕ) : Type 0 where

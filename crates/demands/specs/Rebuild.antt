@@ -1,132 +1,63 @@
--- Demand 3, from the bundle on: 'Whatever bytes stand at those places, some encoded array has them, and the rebuilt
--- column is the one every such array has on that drive. No byte elsewhere, old or new, changes the rebuild. ..'
+-- A rebuild: when it is refused, and demand 3, from the bundle on: 'the rebuilt column is the one every such array has
+-- on that drive. No byte elsewhere, old or new, changes the rebuild. ..'
 --
--- Bytes x                 : each entry of x is a byte
--- EncodedArray p x        : x is an encoded array
--- HasStrips p qs x v      : x has the strip v i at place i of qs, for each of the places qs
--- AlikeAt p qs x y        : the arrays x and y are alike at the places qs
--- columnIn p x j          : the column of node j in the array x
--- WrittenBundle p f r x b : what cutting a bundle from x, written into b, leaves and answers
--- CutFrom p f x r b       : b is a bundle cut from the stored array x
--- NotRefused p f r b y    : a rebuild of node f from the bundle b, into y, is not refused
--- RebuiltColumn p f r b y : some encoded array has the strips of b, and the rebuilt column is that of each such array
+-- rebuildSentences p f r b y : the lines for rebuilding node f from the bundle b into y, past those of a profile
+-- Demand1Rebuild p f r b y   : a rebuild refuses as they say                                        demand-1-rebuild
+-- NotRefused p f r b y       : a rebuild of node f from the bundle b, into y, is not refused
+-- RebuiltColumn p f r b y    : some encoded array has the strips of b; the rebuilt column is that of each such array
 --
--- The statements, shown in proofs/Demand3.antt, the last two in proofs/Whole.antt, under the name beside each (the first
--- two over a walk w: FitsOver p f w, OneColumnOver p f w). Demand3.antt puts them together:
--- Fits                  : any bytes at the planned places stand in some encoded array              fits
--- OneColumn             : encoded arrays alike at the planned places have the same lost column     one-column
--- Demand3Write          : writing a bundle that is not refused                                     demand-3-write
--- Demand3Rebuild        : a rebuild that is not refused                                            demand-3-rebuild
--- SameStrips            : bundles with equal strips give equal columns                             same-strips
--- SameColumn            : so do bundles cut from arrays alike at the planned places                same-column
--- SameBundle            : for one recording, such arrays give one bundle                           same-bundle
--- SameAnswer            : equal bundles, wanted numbers and lengths give the same answer           same-answer
--- CutPasses             : a bundle cut for the wanted numbers is not refused                       cut-passes
--- CutColumn             : the column rebuilt from a bundle cut from any stored array               cut-column
--- CutRebuilds           : from an encoded array, the rebuild gives the lost column back            cut-rebuilds
--- CutForWanted          : a bundle cut for other numbers than the wanted ones is refused           cut-for-wanted
--- WholeBundle           : what is not refused is the bundle cut from any array with its strips     whole-bundle
+-- The statements of demand 3; Demand3.antt puts them together:
+-- Demand3Rebuild             : a rebuild that is not refused                                        demand-3-rebuild
+-- SameStrips                 : bundles with equal strips give equal columns                         same-strips
+-- SameColumn                 : so do bundles cut from arrays alike at the planned places            same-column
+-- SameBundle                 : for one recording, such arrays give one bundle                       same-bundle
+-- SameAnswer                 : equal bundles, wanted numbers and lengths give the same answer       same-answer
+-- CutPasses                  : a bundle cut for the wanted numbers is not refused                   cut-passes
+-- CutColumn                  : the column rebuilt from a bundle cut from any stored array           cut-column
+-- CutRebuilds                : from an encoded array, the rebuild gives the lost column back        cut-rebuilds
+-- CutForWanted               : a bundle cut for other numbers than the wanted ones is refused       cut-for-wanted
+-- WholeBundle                : what is not refused is what is cut from any array with its strips    whole-bundle
+-- Shown in proofs/Rebuild.antt, under the name beside each.
 --
--- planned p f are the planned places, stripOf p x q is the strip at the place q of the array x, stripIn p b i the strip i
--- of the bundle b: document/specs/Plan.antt and Bundle.antt.
+-- planned p f are the planned places, bundleStrip p b i is the strip i of the bundle b: document/specs/Plan.antt and
+-- Bundle.antt.
 use mathlib.Core.Path.{_≡_}
-use mathlib.Core.List.{List}
-use Prim.Native.Nat.{ℕ, _+_, _*_, _<_}
-use lib.ListN.{length, getD}
-use Rattle.lists.specs.Put.{slice}
+use mathlib.Core.Logic.{_≢_}
+use mathlib.Core.List.{List, _∷_, _++_}
+use Prim.Native.Nat.{ℕ, _*_, _<_}
+use lib.ListN.{length}
+use Rattle.lists.specs.Listed.{listed}
 use Rattle.document.specs.declared.Numbers.{Numbers}
 use Rattle.document.specs.declared.Profile.{Profile}
 use Rattle.document.specs.declared.Node.{Node}
 use Rattle.document.specs.declared.Place.{Place}
 use Rattle.document.specs.declared.Recording.{Recording}
+use Rattle.document.specs.declared.Refusal.the-variants.{OutOfRange, BufferLength}
 use Rattle.document.specs.Refusals.{answerNumber, answerValue}
-use Rattle.document.specs.Profile.{Accepted, profileOf}
-use Rattle.document.specs.Places.{place}
-use Rattle.document.specs.Encoding.{Stored}
-use Rattle.document.specs.Plan.{Walk, Complete, planOver, planned, priceOf}
-use Rattle.document.specs.Bundle.{stripOf, bundleOf, writeOf, stripIn}
-use Rattle.document.specs.Rebuild.{rebuildOf}
-use Rattle.demands.specs.Encoding.{DocumentArray}
+use Rattle.document.specs.Profile.{profileOf}
+use Rattle.document.specs.Plan.{planned}
+use Rattle.document.specs.Bundle.{bundleOf, bundleStrip}
+use Rattle.document.specs.Rebuild.{rebuildTests, rebuildOf}
+use Rattle.demands.specs.Tables.{Sentence}
+use Rattle.demands.specs.Profile.{Demand1For}
+use Rattle.demands.specs.Strips.{Bytes, EncodedArray, HasStrips, AlikeAt, columnIn}
+use Rattle.demands.specs.Bundle.{bundleSentences, CutFrom}
 
-abbrev pub Bytes : List ℕ → Type 0
-Bytes x = (e : ℕ) → e < length x → getD x e 0 < 256
+-- 5: a column has AS bytes; 'other than the bundle to read'.
+unfoldable pub rebuildSentences : Profile → Node → Recording → List ℕ → List ℕ → List Sentence
+rebuildSentences p f r b y =
+    record { refusal = OutOfRange; says = f .0 < p .n → ⊥ }
+    ∷ record { refusal = BufferLength; says = length y ≢ p .a * p .s }
+    ∷ bundleSentences p f r b
 
--- 'An encoded array is a stored array that some data give.'
-pub record EncodedArray (p : Profile) (x : List ℕ) : Type 0 where
-  pub given : List ℕ
-  pub gives : DocumentArray p given x
+-- One line for each strip under 8, from index 0, and then one for each strip under 9.
+abbrev pub Demand1Rebuild : Numbers → ℕ → Recording → List ℕ → List ℕ → Type 1
+Demand1Rebuild p f r b y =
+    let lost : Node = record { 0 = f } in
+    let P : ℕ = length (planned (profileOf p) lost) in
+    Demand1For p (λ q. rebuildTests q lost r b y) (λ q. rebuildSentences q lost r b y)
+    ((4, 0) ∷ (5, 0) ∷ (6, 0) ∷ (7, 0) ∷ (listed P (λ i. (8, i)) ++ listed P (λ i. (9, i)))) y (rebuildOf p f r b y)
 
-module _ (p : Profile) (qs : List Place) where
-  abbrev at : ℕ → Place
-  at i = getD qs i (place 0 0)
-
-  -- 'an array has the strips given for them if each stands at its own place'
-  abbrev pub HasStrips : List ℕ → (ℕ → List ℕ) → Type 0
-  HasStrips x strips = (i : ℕ) → i < length qs → stripOf p x (at i) ≡ strips i
-
-  -- 'any two stored arrays alike at the planned places'
-  abbrev pub AlikeAt : List ℕ → List ℕ → Type 0
-  AlikeAt x y = (i : ℕ) → i < length qs → stripOf p x (at i) ≡ stripOf p y (at i)
-
--- 'a node's column is its A strips, row 0 first'; 'strip (row i, node j) starts at (jA+i)S'.
-abbrev pub columnIn : Profile → List ℕ → ℕ → List ℕ
-columnIn p x j = slice x (j * p .a * p .s) (p .a * p .s)
-
--- ---- 'For every accepted profile .. and every dead drive': what a rebuild rests on, over any walk that goes over each
--- candidate once
-module _ (p : Profile) (f : Node) (w : Walk) where
-  abbrev places : List Place
-  places = planOver (p .a) (p .k) f w
-
-  -- 'Whatever bytes stand at those places, some encoded array has them'
-  abbrev FitsOver : Type 0
-  FitsOver =
-      (strips : ℕ → List ℕ) → ((i : ℕ) → i < length places → (length (strips i) ≡ p .s) × Bytes (strips i))
-      → (x : List ℕ) × EncodedArray p x × HasStrips p places x strips
-
-  -- 'the one every such array has on that drive'
-  abbrev OneColumnOver : Type 0
-  OneColumnOver =
-      (x y : List ℕ) → EncodedArray p x → EncodedArray p y → AlikeAt p places x y
-      → columnIn p x (f .0) ≡ columnIn p y (f .0)
-
-abbrev pub Fits : Type 0
-Fits =
-    (p : Profile) → Accepted p → (f : Node) → f .0 < p .n → (w : Walk) → Complete (p .n) (p .a) f w → FitsOver p f w
-
-abbrev pub OneColumn : Type 0
-OneColumn =
-    (p : Profile) → Accepted p → (f : Node) → f .0 < p .n → (w : Walk) → Complete (p .n) (p .a) f w
-    → OneColumnOver p f w
-
--- ---- the bundle
-module _ (p : Numbers) (f : ℕ) (r : Recording) (x b : List ℕ) where
-  abbrev written : List ℕ
-  written = writeOf p f r x b .1
-
-  pub record WrittenBundle : Type 0 where
-    -- the fields of document 01, 'once a planned place in plan order'
-    pub holds : written ≡ bundleOf (profileOf p) (record { 0 = f }) r x
-    -- 'it takes its strips from the planned places'
-    pub strips : HasStrips (profileOf p) (planned (profileOf p) (record { 0 = f })) x (stripIn (profileOf p) written)
-    -- 'Length: 17 + P(9+S), P the number of places.'
-    pub size : length written ≡ 17 + priceOf (p .n) (p .k) (p .a) * (9 + p .s)
-    -- 'On success the answer is 0, with .. the length for a bundle'
-    pub value : answerValue (writeOf p f r x b .0) ≡ length written
-
-abbrev pub Demand3Write : Type 0
-Demand3Write =
-    (p : Numbers) (f : ℕ) (r : Recording) (x b : List ℕ) → answerNumber (writeOf p f r x b .0) ≡ 0
-    → WrittenBundle p f r x b
-
--- 'A bundle cut from a stored array is what writing a bundle leaves'.
-pub record CutFrom (p : Numbers) (f : ℕ) (x : List ℕ) (r : Recording) (b : List ℕ) : Type 0 where
-  pub lent : List ℕ
-  pub stored : Stored (profileOf p) x
-  pub not-refused : answerNumber (writeOf p f r x lent .0) ≡ 0
-  pub leaves : writeOf p f r x lent .1 ≡ b
-
--- ---- the rebuild
 -- 'The rebuilt column is the AS bytes that a rebuild not refused leaves in the buffer lent for writing.'
 abbrev pub NotRefused : Numbers → ℕ → Recording → List ℕ → List ℕ → Type 0
 NotRefused p f r b y = answerNumber (rebuildOf p f r b y .0) ≡ 0
@@ -143,9 +74,9 @@ module _ (p : Numbers) (f : ℕ) where
     -- 'On success the answer is 0, with .. 0 otherwise.'
     pub value : answerValue (rebuildOf p f r b y .0) ≡ 0
     -- 'some encoded array has them'
-    pub some : (x : List ℕ) × EncodedArray wanted x × HasStrips wanted plan x (stripIn wanted b)
+    pub some : (x : List ℕ) × EncodedArray wanted x × HasStrips wanted plan x (bundleStrip wanted b)
     -- 'and the rebuilt column is the one every such array has on that drive'
-    pub column : (x : List ℕ) → EncodedArray wanted x → HasStrips wanted plan x (stripIn wanted b)
+    pub column : (x : List ℕ) → EncodedArray wanted x → HasStrips wanted plan x (bundleStrip wanted b)
         → rebuildOf p f r b y .1 ≡ columnIn wanted x f
 
   abbrev pub Demand3Rebuild : Type 0
@@ -156,7 +87,7 @@ module _ (p : Numbers) (f : ℕ) where
   abbrev pub SameStrips : Type 0
   SameStrips =
       (r u : Recording) (b c y z : List ℕ) → NotRefused p f r b y → NotRefused p f u c z
-      → ((i : ℕ) → i < length plan → stripIn wanted b i ≡ stripIn wanted c i)
+      → ((i : ℕ) → i < length plan → bundleStrip wanted b i ≡ bundleStrip wanted c i)
       → rebuildOf p f r b y .1 ≡ rebuildOf p f u c z .1
 
   -- 'Take any two stored arrays alike at the planned places, whatever they hold elsewhere: rebuilds from bundles cut
@@ -209,4 +140,4 @@ module _ (p : Numbers) (f : ℕ) where
   abbrev pub WholeBundle : Type 0
   WholeBundle =
       (r : Recording) (b y x : List ℕ) → NotRefused p f r b y → length x ≡ p .n * p .a * p .s
-      → HasStrips wanted plan x (stripIn wanted b) → b ≡ bundleOf wanted (record { 0 = f }) r x
+      → HasStrips wanted plan x (bundleStrip wanted b) → b ≡ bundleOf wanted (record { 0 = f }) r x

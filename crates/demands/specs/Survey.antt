@@ -1,9 +1,12 @@
--- The survey, in document 01's words: what each outcome says of the sets, and what it says of readings.
+-- The survey, in document 01's words: when it is refused, what each outcome says of the sets, and what it says of
+-- readings.
 --
+-- surveySentences p start x      : the lines for a survey from a position on, into x, past those of a profile
+-- Demand1Survey p start most x   : a survey refuses as they say. Shown in proofs/Survey.antt: demand-1-survey
 -- Fails p pos                    : the set at a position fails
 -- NoneFails p from to            : no set from the position `from` on and before `to` fails
 -- Tells p start most x outcome   : what the outcome of a survey says, by its three cases
--- joinedOutcome first second     : the outcome of two surveys together, where the second goes on where the first stopped
+-- joinedOutcome first second     : the outcome of two surveys together: the second goes on where the first stopped
 -- SurveyTells                    : a survey that is not refused says what holds of the sets
 -- TestOfFailing                  : the survey's test of a set is true exactly if the set fails
 -- FailsInReading                 : a set fails exactly if readings from it are refused with 10
@@ -11,7 +14,7 @@
 --                                  lexicographic order
 -- DoneReadsAll                   : 'done' from start 0 means that every set of k nodes can be read
 -- SurveysJoin                    : surveys of adjoining ranges join into one
--- SurveyDemands                  : all of these. Shown in proofs/Survey.antt: survey-demands
+-- SurveyDemands                  : these, from SurveyTells on. Shown in proofs/Survey.antt: survey-demands
 --
 -- The words it uses:
 -- setAt 0 n k pos       : the set at a position, as a list of its nodes
@@ -22,19 +25,36 @@
 -- Smaller u v           : u stands before v in lexicographic order
 -- TwoData p nodes       : some two different data give equal columns on the named nodes
 use mathlib.Core.Path.{_≡_}
-use mathlib.Core.Logic.{_↔_}
-use mathlib.Core.List.{List}
+use mathlib.Core.Logic.{_↔_, _≢_}
+use mathlib.Core.List.{List, [], _∷_}
 use Prim.Native.Nat.{ℕ, _+_, _≤_, _<_}
+use lib.ListN.{length}
 use Rattle.ksets.specs.Sets.{sets, setAt, rankOf, Rising, Smaller, nextOf}
 use Rattle.document.specs.declared.Numbers.{Numbers}
 use Rattle.document.specs.declared.Profile.{Profile}
 use Rattle.document.specs.declared.Surveyed.{Surveyed}
 use Rattle.document.specs.declared.Surveyed.the-variants.{Failing, Done, Open, Refused}
+use Rattle.document.specs.declared.Refusal.the-variants.{OutOfRange, BufferLength}
 use Rattle.document.specs.Refusals.{answerNumber, Decides}
 use Rattle.document.specs.Profile.{Accepted, profileOf}
 use Rattle.document.specs.Reading.{TwoData, readOf}
-use Rattle.document.specs.Survey.{failsAt, surveyAnswer, surveyOf}
+use Rattle.document.specs.Survey.{failsAt, surveyTests, surveyAnswer, surveyOf}
+use Rattle.demands.specs.Tables.{Sentence}
+use Rattle.demands.specs.Profile.{Demand1For}
 use Rattle.demands.specs.Reading.{InDueForm}
+
+-- 4: 'survey start above the number of sets'. 5: 'a lent buffer of k bytes'.
+unfoldable pub surveySentences : Profile → ℕ → List ℕ → List Sentence
+surveySentences p start x =
+    record { refusal = OutOfRange; says = sets (p .n) (p .k) < start }
+    ∷ record { refusal = BufferLength; says = length x ≢ p .k }
+    ∷ []
+
+-- The answer of a survey is told as that of any call: refused or not.
+abbrev pub Demand1Survey : Numbers → ℕ → ℕ → List ℕ → Type 1
+Demand1Survey p start most x =
+    Demand1For p (λ q. surveyTests q start x) (λ q. surveySentences q start x) ((4, 0) ∷ (5, 0) ∷ []) x
+    (surveyAnswer (surveyOf p start most x .0), surveyOf p start most x .1)
 
 module _ (p : Profile) where
   open Profile p using (n, k)
@@ -46,10 +66,10 @@ module _ (p : Profile) where
   abbrev pub NoneFails : ℕ → ℕ → Type 0
   NoneFails from to = (pos : ℕ) → from ≤ pos → pos < to → Fails pos → ⊥
 
-  -- What the answer, and the buffer after it, say of a survey of at most `most` sets from `start` on, lent the buffer x.
+  -- What the answer, and the buffer after it, say of a survey of at most `most` sets from `start` on, lent x.
   pub data Tells (start most : ℕ) (x : List ℕ) : Surveyed × List ℕ → Type 0 where
-    -- 'failing, with position (counted from the first set of all, whatever the start) and the set written out'; 'up to and
-    -- with the first failing one, if it is among the first B from the start'
+    -- 'failing, with position (counted from the first set of all, whatever the start) and the set written out'; 'up to
+    -- and with the first failing one, if it is among the first B from the start'
     failing : {pos looked : ℕ} → start ≤ pos → pos < sets n k → Fails pos → NoneFails start pos
         → start + looked ≡ pos + 1 → looked ≤ most → Tells start most x (Failing pos looked, setAt 0 n k pos)
     -- 'it is done if none is left after that': all that was left was looked at
@@ -100,8 +120,8 @@ joinedOutcome (Open looked, x) (Done more, y) = (Done (looked + more), y)
 joinedOutcome (Open looked, x) (Open more, y) = (Open (looked + more), y)
 joinedOutcome (Open looked, x) (Refused r, y) = (Refused r, y)
 
--- Surveys of two ranges, one after the other, are one survey. The second is lent x too: it matters only where the first was
--- open, and then the first left x as it was.
+-- Surveys of two ranges, one after the other, are one survey. The second is lent x too: it matters only where the
+-- first was open, and then the first left x as it was.
 abbrev pub SurveysJoin : Type 0
 SurveysJoin =
     (p : Numbers) (start most more : ℕ) (x : List ℕ)

@@ -26,8 +26,20 @@ use Rattle.document.specs.declared.Place.{Place}
 use Rattle.document.specs.Profile.{Accepted}
 use Rattle.document.specs.Places.{place, Within}
 use Rattle.document.specs.Bytes.{bytes, Byte, byte, number}
-use Rattle.document.specs.Encoding.{start, byteAt, baseAt, constantOf, factorAt, coupledAt, laidOut, columnOf, encoded}
-use Rattle.document.specs.Bundle.{stripFieldLength, stripOf, stripFieldStart, stripIn}
+use Rattle.document.specs.Encoding.{
+  start,
+  byteAt,
+  stripOf,
+  baseAt,
+  constantOf,
+  factorAt,
+  coupledAt,
+  laidOut,
+  columnOf,
+  encoded,
+}
+use Rattle.document.specs.Message.{stripFieldLength, stripIn, stripFieldStart}
+use Rattle.document.specs.Bundle.{bundleStrip}
 use Rattle.document.specs.Rebuild.{firstStrip}
 use Rattle.document.proofs.Bytes.{number-byte, number-zero, number-one, points-distinct}
 use Rattle.document.proofs.Bounds.{room, A>0, n-is, strip-within}
@@ -221,6 +233,6 @@ module _ (p : Profile) where
 
   -- strip i of a bundle, where a rebuild reads it
   pub given-strip : (b : List ℕ) (i o : ℕ) → o < S
-      → getD (stripIn p b i) o 0 ≡ getD b (firstStrip + i * stripFieldLength S + o) 0
+      → getD (bundleStrip p b i) o 0 ≡ getD b (firstStrip p + i * stripFieldLength S + o) 0
   unfolding stripIn stripFieldStart
   given-strip b i o l = slice-at b _ S o l ∙ ap (λ (e : ℕ). getD b e 0) (omega arith)

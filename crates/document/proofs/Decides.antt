@@ -70,3 +70,8 @@ unfolding samePlace
 decides-place q r =
     decides-same _ (decides-both _ _ (decides-eq (q .node .0) (r .node .0)) (decides-eq (q .row .0) (r .row .0)))
     (λ h. ap₂ place (h .0) (h .1)) (λ e. (ap (λ (q : Place). q .node .0) e, ap (λ (q : Place). q .row .0) e))
+
+-- what is decided and not refuted holds
+pub decided : {P : Type 0} (b : Bool) → Decides b P → ((P → ⊥) → ⊥) → P
+decided true d n = d .0 refl
+decided false d n = absurd (n (λ h. false≢true (d .1 h)))

@@ -1,5 +1,6 @@
 pub mod Bytes
 pub mod Decides
+pub mod Refusals
 pub mod Accepts
 pub mod Bounds
 pub mod Arrays
@@ -9,8 +10,8 @@ pub mod Price
 pub mod Planned
 pub mod Tried
 pub mod PlanBytes
+pub mod Message
 pub mod Bundle
-pub mod Cut
 pub mod Columns
 pub mod Chosen
 pub mod Values

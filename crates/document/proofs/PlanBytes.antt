@@ -5,7 +5,7 @@ use Prim.Native.Nat.{ℕ, zero, suc, _+_, _*_}
 use native.Mathlib.Omega.{arith}
 use lib.ListN.{length, getD}
 use Rattle.document.specs.declared.Place.{Place}
-use Rattle.document.specs.Places.{place}
+use Rattle.document.specs.Places.{place, placeAt}
 use Rattle.document.specs.Plan.{planBytes}
 
 pub bytes-append : (qs rs : List Place) → planBytes (qs ++ rs) ≡ planBytes qs ++ planBytes rs
@@ -19,7 +19,7 @@ bytes-length [] = refl
 bytes-length (q ∷ qs) = omega (arith, bytes-length qs)
 
 -- past the end both sides are 0
-pub bytes-node : (qs : List Place) (i : ℕ) → getD (planBytes qs) (2 * i) 0 ≡ getD qs i (place 0 0) .node .0
+pub bytes-node : (qs : List Place) (i : ℕ) → getD (planBytes qs) (2 * i) 0 ≡ placeAt qs i .node .0
 unfolding planBytes
 bytes-node [] i = refl
 bytes-node (q ∷ qs) zero = refl
@@ -27,7 +27,7 @@ bytes-node (q ∷ qs) (suc i) =
     let e : 2 * suc i ≡ suc (suc (2 * i)) = omega arith in
     rw e (bytes-node qs i)
 
-pub bytes-row : (qs : List Place) (i : ℕ) → getD (planBytes qs) (2 * i + 1) 0 ≡ getD qs i (place 0 0) .row .0
+pub bytes-row : (qs : List Place) (i : ℕ) → getD (planBytes qs) (2 * i + 1) 0 ≡ placeAt qs i .row .0
 unfolding planBytes
 bytes-row [] i = refl
 bytes-row (q ∷ qs) zero = refl
@@ -37,5 +37,5 @@ bytes-row (q ∷ qs) (suc i) =
 
 -- the place that two bytes of a plan name
 pub bytes-place : (qs : List Place) (i : ℕ)
-    → place (getD (planBytes qs) (2 * i) 0) (getD (planBytes qs) (2 * i + 1) 0) ≡ getD qs i (place 0 0)
+    → place (getD (planBytes qs) (2 * i) 0) (getD (planBytes qs) (2 * i + 1) 0) ≡ placeAt qs i
 bytes-place qs i = ap₂ place (bytes-node qs i) (bytes-row qs i)

@@ -12,7 +12,7 @@ use Rattle.document.specs.declared.Answer.{Answer}
 use Rattle.document.specs.declared.Answer.the-variants.{Done, Refused}
 use Rattle.document.specs.Refusals.{tried}
 use Rattle.document.specs.Profile.{maxRows, maxStrip, profileOf, onAccepted}
-use Rattle.document.specs.Bundle.{stripFieldLength}
+use Rattle.document.specs.Message.{stripFieldLength}
 use Rattle.document.specs.Rebuild.{rebuiltOf, rebuildTests, firstStrip, rebuildWith, rebuildOf}
 use Rattle.document.specs.Program.{
   programHead,
@@ -33,7 +33,7 @@ module _ (p : Numbers) (f : ℕ) (r : Recording) (b : List ℕ) where
 
   -- a rebuild with an accepted profile, as the program tells it
   abbrev pub told : List ℕ → Profile → List ℕ
-  told y q = tried (rebuildTests q lost r b y) lineOf (rebuiltOf q lost b firstStrip (stripFieldLength (q .s)))
+  told y q = tried (rebuildTests q lost r b y) lineOf (rebuiltOf q lost b (firstStrip q) (stripFieldLength (q .s)))
 
   pub output-is : (y : List ℕ) → outputOf (rebuildOf p f r b y) ≡ onAccepted p lineOf (told y)
   unfolding rebuildOf rebuildWith outputOf

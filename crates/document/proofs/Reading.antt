@@ -3,15 +3,14 @@
 -- ones with these columns.
 use mathlib.Core.Path.{_≡_, refl, sym, ap, _∙_}
 use mathlib.Core.Bool.{Bool, true, false}
-use mathlib.Core.List.{List, []}
-use Prim.Native.Nat.{ℕ, zero, suc, _+_, _*_, _/_, _%_, _≤_, _<_}
+use mathlib.Core.List.{List}
+use Prim.Native.Nat.{ℕ, zero, suc, _+_, _*_, _/_, _%_, _<_}
 use native.Mathlib.Nat.{mul-comm, mod-lt, div-add-mod', div-lt-iff-lt-mul}
-use native.Mathlib.Decide.{decLt}
 use native.Mathlib.Omega.{arith}
 use lib.Arith.{digits-lt, digits-div, digits-mod}
-use lib.ListN.{length, getD, List·getD-eq-default}
+use lib.ListN.{length, getD}
 use Rattle.lists.specs.Listed.{listed}
-use Rattle.lists.proofs.Listed.{listed-length, listed-at}
+use Rattle.lists.proofs.Listed.{listed-length, listed-at, listed-holds}
 use Rattle.ksets.specs.Sets.{RisingFrom, none, next, Rising}
 use Rattle.algebra.specs.Field.{Field}
 use Rattle.algebra.specs.Square.{dot, Matrix, times, Solves, Kernel, Inverse}
@@ -66,16 +65,7 @@ rising-below (next low high r) (suc m) h = rising-below r m (omega arith)
 
 -- The numbers of bytes, listed, lie below 256, and so does what is read past the end.
 pub listed-small : (w : ℕ) (f : ℕ → Byte) (e : ℕ) → getD (listed w (λ i. number (f i))) e 0 < 256
-listed-small w f e = go (decLt e w)
-  where
-    line : List ℕ
-    line = listed w (λ i. number (f i))
-
-    go : Dec (e < w) → getD line e 0 < 256
-    go (yes h) = rw (listed-at w (λ i. number (f i)) e 0 h) (number-lt (f e))
-    go (no h) =
-        let short : length line ≤ e = omega (arith, listed-length w (λ i. number (f i))) in
-        rw (List·getD-eq-default line 0 short) (omega arith)
+listed-small w f = listed-holds (λ (v : ℕ). v < 256) 0 (omega arith) w (λ i. number (f i)) (λ i. number-lt (f i))
 
 module _ (p : Profile) where
   open Profile p using (n, k, a as A, s as S)
@@ -144,15 +134,10 @@ module _ (p : Profile) where
 
     -- each entry is a byte, a missing one too
     square-small : (z e : ℕ) → entry (squareOf p nodes) z e < 256
-    square-small z e = go (decLt z (k * A))
-      where
-        go : Dec (z < k * A) → entry (squareOf p nodes) z e < 256
-        go (yes h) = rw (square-line z h) (listed-small (k * A) _ e)
-        go (no h) =
-            let short : length (squareOf p nodes) ≤ z = omega (arith, square-length) in
-            let none-there : lineAt (squareOf p nodes) z ≡ [] =
-            ap (λ (l : Line). l .c) (List·getD-eq-default (squareOf p nodes) noLine short) in
-            rw none-there (omega arith)
+    unfolding squareOf lineOf
+    square-small z e =
+        listed-holds (λ (x : Line). getD (x .c) e 0 < 256) noLine (omega arith) (k * A)
+        (λ z. lineOf p (joinedPlace p nodes z)) (λ z. listed-small (k * A) _ e) z
 
     -- It has kA lines of kA bytes.
     pub square-shaped : Shaped (k * A) (k * A) (squareOf p nodes)

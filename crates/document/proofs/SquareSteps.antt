@@ -8,15 +8,15 @@
 use mathlib.Core.Path.{_≡_, refl, sym, ap, ap₂, _∙_}
 use mathlib.Core.Logic.{_≢_}
 use mathlib.Core.Bool.{Bool, true, false, cond}
-use mathlib.Core.List.{List, []}
+use mathlib.Core.List.{List}
 use Prim.Native.Nat.{ℕ, _≤_, _<_}
 use native.Mathlib.Decide.{ℕ-discrete, decLt}
 use native.Mathlib.Omega.{arith}
 use lib.Dec.{eqb}
-use lib.ListN.{length, getD, set, length-set, List·getD-eq-default}
+use lib.ListN.{length, getD, set, length-set}
 use lib.Seq.{getD-set-same, getD-set-other}
 use borrow.Author.Tests.{eq-eqb, ne-eqb}
-use Rattle.lists.proofs.Listed.{listed-length, listed-at}
+use Rattle.lists.proofs.Listed.{listed-length, listed-at, getD-holds, listed-holds}
 use Rattle.gf256.specs.Field.{_⊕_, _⊗_, inverse}
 use Rattle.gf256.proofs.Ring.{add-lt, mul-lt, inverse-lt}
 use Rattle.algebra.specs.Square.{unit, Step, multiplier}
@@ -75,12 +75,6 @@ module _ (q : ℕ) where
   unfolding unitSquare
   unit-square-at r h = ap (λ (x : Line). x .c) (listed-at q (λ i. record { c = unitLine q i }) r noLine h)
 
-  -- There is none past them.
-  pub unit-square-none : (r : ℕ) → q ≤ r → lineAt (unitSquare q) r ≡ []
-  unit-square-none r h =
-      let short : length (unitSquare q) ≤ r = omega (arith, unit-square-length) in
-      ap (λ (x : Line). x .c) (List·getD-eq-default (unitSquare q) noLine short)
-
   -- Each has q entries.
   pub unit-line-length : (r : ℕ) → length (unitLine q r) ≡ q
   unfolding unitLine
@@ -91,27 +85,16 @@ module _ (q : ℕ) where
   unfolding unitLine
   unit-line-at r j h = listed-at q (λ j. cond (eqb j r) 1 0) j 0 h
 
-  -- So its entries are bytes.
-  unit-line-small : (r j : ℕ) → getD (unitLine q r) j 0 < 256
-  unit-line-small r j = go (decLt j q)
+  -- Each entry is a byte, a missing one too.
+  unit-small : Small (unitSquare q)
+  unfolding unitSquare unitLine
+  unit-small i j =
+      listed-holds (λ (x : Line). getD (x .c) j 0 < 256) noLine (omega arith) q (λ i. record { c = unitLine q i })
+      (λ i. listed-holds (λ (v : ℕ). v < 256) 0 (omega arith) q (λ j. cond (eqb j i) 1 0) (λ j. bit (eqb j i)) j) i
     where
       bit : (b : Bool) → cond b 1 0 < 256
       bit true = omega arith
       bit false = omega arith
-
-      go : Dec (j < q) → getD (unitLine q r) j 0 < 256
-      go (yes h) = rw (unit-line-at r j h) (bit (eqb j r))
-      go (no h) =
-          let short : length (unitLine q r) ≤ j = omega (arith, unit-line-length r) in
-          rw (List·getD-eq-default (unitLine q r) 0 short) (omega arith)
-
-  -- All of the square's are.
-  pub unit-square-small : Small (unitSquare q)
-  unit-square-small i j = go (decLt i q)
-    where
-      go : Dec (i < q) → entry (unitSquare q) i j < 256
-      go (yes h) = rw (unit-square-at i h) (unit-line-small i j)
-      go (no h) = rw (unit-square-none i (omega arith)) (omega arith)
 
 -- The unit square of q ≥ m lines can stand beside a square of m lines.
 pub unit-square : {m : ℕ} (q : ℕ) → m ≤ q → UnitShaped m (unitSquare q)
@@ -120,7 +103,7 @@ unit-square q l = record {
   shape = record {
     long = omega (arith, unit-square-length q);
     wide = λ i h. rw (unit-square-at q i (omega arith), unit-line-length) l;
-    small = unit-square-small q;
+    small = unit-small q;
   };
   begins = λ i j h k.
       ap (λ (x : List ℕ). byte (getD x j 0)) (unit-square-at q i (omega arith))
@@ -131,13 +114,11 @@ unit-square q l = record {
 -- A multiple of a line added to a line of bytes leaves bytes.
 added-small : (f : ℕ) (ys xs : List ℕ) → ((j : ℕ) → getD xs j 0 < 256)
     → (j : ℕ) → getD (addedScaled f 0 ys xs) j 0 < 256
-added-small f ys xs small j = go (decLt j (length xs))
-  where
-    go : Dec (j < length xs) → getD (addedScaled f 0 ys xs) j 0 < 256
-    go (yes h) = rw (added-at f ys xs j h) (add-lt (small j) (mul-lt f (getD ys j 0)))
-    go (no h) =
-        let short : length (addedScaled f 0 ys xs) ≤ j = omega (arith, added-length f 0 ys xs) in
-        rw (List·getD-eq-default (addedScaled f 0 ys xs) 0 short) (omega arith)
+added-small f ys xs small =
+    getD-holds (λ (v : ℕ). v < 256) 0 (omega arith) (addedScaled f 0 ys xs)
+    (λ j l.
+    let below : j < length xs = omega (arith, added-length f 0 ys xs) in
+    rw (added-at f ys xs j below) (add-lt (small j) (mul-lt f (getD ys j 0))))
 
 -- b comes from s by adding c i times line p to each line i below m.
 pub record Taken (c : ℕ → ℕ) (p m : ℕ) (s b : List Line) : Type 0 where

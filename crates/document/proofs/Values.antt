@@ -4,7 +4,7 @@ use mathlib.Core.Path.{_≡_, refl}
 use mathlib.Core.Bool.{Bool, true, false, _&&_, not}
 use mathlib.Core.List.{List, [], _∷_, _++_}
 use Prim.Native.Nat.{ℕ, zero, suc, _*_, _≤_, _<_, zero-le, suc-le-suc}
-use native.Mathlib.Nat.{zero-lt-suc, mul-le-mul}
+use native.Mathlib.Nat.{zero-lt-suc}
 use native.Mathlib.Omega.{arith}
 use lib.Dec.{eqb, ltb}
 use lib.ListN.{length}
@@ -22,11 +22,11 @@ use Rattle.document.specs.declared.Refusal.{Refusal}
 use Rattle.document.specs.declared.Surveyed.{Surveyed}
 use Rattle.document.specs.declared.Surveyed.the-variants as surveys
 use Rattle.document.specs.Refusals.{Test, tried, indexOf, answerValue}
-use Rattle.document.specs.Profile.{maxStrip, Accepted, profileTests, profileOf, onAccepted}
+use Rattle.document.specs.Profile.{Accepted, profileTests, profileOf, onAccepted}
 use Rattle.document.specs.Encoding.{encodeTests, encodeWith, encodeOf}
 use Rattle.document.specs.Plan.{planned, maxPlaces, planTests, planWith, planOf}
+use Rattle.document.specs.Message.{messageTests}
 use Rattle.document.specs.Bundle.{
-  stripFieldLength,
   bundleLength,
   longestBundle,
   bundleOf,
@@ -37,11 +37,11 @@ use Rattle.document.specs.Bundle.{
 }
 use Rattle.document.specs.Rebuild.{rebuildTests, rebuildWith, rebuildOf}
 use Rattle.document.specs.Reading.{readTests, readWith, readOf}
-use Rattle.document.specs.Survey.{resultOf, surveyTests, surveyWith, surveyOf, positionIn, lookedIn}
+use Rattle.document.specs.Survey.{resultOf, surveyTests, surveyWith, surveyOf, failingPosition, lookedIn}
 use Rattle.document.proofs.Decides.{decides-eq, decides-both}
 use Rattle.document.proofs.Accepts.{failed-accepted}
 use Rattle.document.proofs.Price.{few-places}
-use Rattle.document.proofs.Bundle.{bundle-length}
+use Rattle.document.proofs.Bundle.{bundle-length, bundle-bound}
 use Rattle.document.proofs.Surveys.{by-result}
 
 -- Of a list of tests: each refusal comes with an index of at most `most`, if those before it were not given, and Q holds
@@ -91,7 +91,7 @@ small-last (suc n) T h value =
 
 -- what a C host is told of a survey: a position, and a number of sets looked at
 pub record Counted (answer : Surveyed) : Type 0 where
-  pub position : positionIn answer ≤ 2704156
+  pub position : failingPosition answer ≤ 2704156
   pub looked : lookedIn answer ≤ 2704156
 
 module _ (p : Numbers) where
@@ -124,7 +124,7 @@ module _ (p : Numbers) where
 
   -- no position and no number of sets is greater than the number of sets of 24 nodes
   pub survey-counted : (start most : ℕ) (x : List ℕ) → Counted (surveyOf p start most x .0)
-  unfolding surveyOf surveyWith surveyTests positionIn lookedIn indexOf
+  unfolding surveyOf surveyWith surveyTests failingPosition lookedIn indexOf
   survey-counted start most x =
       by-profile (λ (o : Surveyed × List ℕ). Counted (o .0)) (λ r. (surveys.Refused r, x)) _
       (λ r h. record { position = zero-le; looked = zero-le })
@@ -173,18 +173,17 @@ module _ (p : Numbers) where
             → eqb (length x) (p .n * p .a * p .s) && eqb (length b) (bundleLength (profileOf p) node) ≡ true
             → length (bundleOf (profileOf p) node r x) ≤ longestBundle
         size acc e f =
+            let below : lost < p .n = ltb-true lost (p .n) (not-false _ e) in
             let stored : length x ≡ p .n * p .a * p .s =
             decides-both _ _ (decides-eq (length x) (p .n * p .a * p .s)) (decides-eq (length b) _) .0 f .0 in
-            let fields : places * stripFieldLength (p .s) ≤ maxPlaces * stripFieldLength maxStrip =
-            mul-le-mul {n₁ = places} {m₁ = stripFieldLength (p .s)} {n₂ = maxPlaces} {m₂ = stripFieldLength maxStrip}
-            (few acc e) (omega (arith, acc .short)) in
             omega (
               arith,
-              bundle-length (profileOf p) r x acc stored node (ltb-true lost (p .n) (not-false _ e)),
+              bundle-length (profileOf p) acc x stored r node below,
+              bundle-bound (profileOf p) acc node below,
             )
 
     pub rebuild-value : (r : Recording) (b y : List ℕ) → answerValue (rebuildOf p lost r b y .0) < maxPlaces
-    unfolding rebuildOf rebuildWith rebuildTests bundleTests indexOf
+    unfolding rebuildOf rebuildWith rebuildTests bundleTests messageTests indexOf
     rebuild-value r b y =
         suc-le-suc
         (value-by y _

@@ -4,6 +4,7 @@
 --
 -- start p q         : where the strip of the place q starts in memory
 -- byteAt p x b q    : byte b of that strip, in data or in an array x; 0 past the end of x
+-- stripOf p x q     : that strip, whole
 -- baseAt p d b q    : the base symbol of the data d at byte offset b of the place q
 -- constantOf p i l  : the coupling constant of the lower strip at row i, local column l
 -- coupledAt p a q   : what is stored at q where the base symbols are a
@@ -29,6 +30,7 @@ use native.Mathlib.Decide.{ℕ-discrete, decLt}
 use lib.Dec.{eqb}
 use lib.ListN.{length, getD}
 use Rattle.lists.specs.Listed.{listed}
+use Rattle.lists.specs.Put.{slice}
 use Rattle.algebra.specs.Field.{Field}
 use Rattle.algebra.specs.Pick.{pick}
 use Rattle.algebra.specs.Sum.{sum}
@@ -58,6 +60,9 @@ module _ (p : Profile) where
 
   unfoldable pub byteAt : List ℕ → ℕ → Place → Byte
   byteAt x b q = byte (getD x (start q + b) 0)
+
+  unfoldable pub stripOf : List ℕ → Place → List ℕ
+  stripOf x q = slice x (start q) S
 
   -- 'Node j has the point j, the field element with that number. One row of base symbols a(i,0)..a(i,n-1) is the list of
   -- values, at the points 0..n-1, of a polynomial of degree below k. The data are the symbols with j < k, free.'

@@ -4,6 +4,7 @@ pub mod Places
 pub mod Bytes
 pub mod Encoding
 pub mod Plan
+pub mod Message
 pub mod Bundle
 pub mod Rebuild
 pub mod Program

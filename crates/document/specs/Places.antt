@@ -5,10 +5,13 @@
 -- localColumn A j : its local column there
 -- partnerOf A q   : the place coupled with q
 -- samePlace q r   : the test whether two places are one
+-- placeAt qs i    : place i of a list of places, from 0
 -- Within p q      : the place q has a node and a row of the profile p
 use mathlib.Core.Bool.{Bool, _&&_}
+use mathlib.Core.List.{List}
 use Prim.Native.Nat.{ℕ, _+_, _*_, _/_, _%_, _<_}
 use lib.Dec.{eqb}
+use lib.ListN.{getD}
 use Rattle.document.specs.declared.Node.{Node}
 use Rattle.document.specs.declared.Place.{Place}
 use Rattle.document.specs.declared.Profile.{Profile}
@@ -30,6 +33,9 @@ partnerOf A q = place (groupOf A (q .node) * A + q .row .0) (localColumn A (q .n
 
 unfoldable pub samePlace : Place → Place → Bool
 samePlace q r = eqb (q .node .0) (r .node .0) && eqb (q .row .0) (r .row .0)
+
+abbrev pub placeAt : List Place → ℕ → Place
+placeAt qs i = getD qs i (place 0 0)
 
 -- 'Nodes and rows count from 0.'
 pub record Within (p : Profile) (q : Place) : Type 0 where

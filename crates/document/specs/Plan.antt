@@ -18,13 +18,14 @@
 -- priceOf n k A       : their number
 -- maxPlaces           : the greatest of these numbers
 -- planBytes qs        : places written as two bytes each
--- planTests p f x     : the refusals of planning, in their order
--- planOf p f x        : planning into x: the answer, and what x holds then
+-- planTests p f x     : the refusals of planning past those of a profile, in their order
+-- planWith p f x      : planning into x with the profile p: the answer, and what x holds then
+-- planOf p f x        : the same for any numbers p
 use mathlib.Core.Bool.{Bool, _&&_, not}
 use mathlib.Core.List.{List, [], _∷_, _++_, map}
 use Prim.Native.Nat.{ℕ, _+_, _-_, _*_, _/_}
 use lib.Dec.{eqb, ltb}
-use lib.ListN.{length, getD, take, drop}
+use lib.ListN.{length, take, drop}
 use Rattle.lists.specs.Listed.{rising}
 use Rattle.lists.specs.Each.{ListsOnce}
 use Rattle.document.specs.declared.Numbers.{Numbers}
@@ -36,7 +37,7 @@ use Rattle.document.specs.declared.Answer.{Answer}
 use Rattle.document.specs.declared.Answer.the-variants.{Done, Refused}
 use Rattle.document.specs.Refusals.{Test, tried}
 use Rattle.document.specs.Profile.{onAccepted}
-use Rattle.document.specs.Places.{place, groupOf, localColumn, partnerOf}
+use Rattle.document.specs.Places.{place, groupOf, localColumn, partnerOf, placeAt}
 
 module _ (A : ℕ) (f : Node) where
   -- Whether node j lies in f's group, and at f's local column.
@@ -109,7 +110,7 @@ unfoldable pub planned : Profile → Node → List Place
 planned p f = planOver (p .a) (p .k) f (walkOf p f)
 
 unfoldable pub plannedAt : Profile → Node → ℕ → Place
-plannedAt p f i = getD (planned p f) i (place 0 0)
+plannedAt p f i = placeAt (planned p f) i
 
 -- 'The number of places is A-1 + k + max(0, k-(G-1))', where G = n div A.
 abbrev pub priceOf : ℕ → ℕ → ℕ → ℕ

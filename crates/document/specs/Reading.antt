@@ -15,8 +15,10 @@
 -- inverseIn e               : the lines of the inverse, from how an elimination ended; none where a column has no pivot
 -- inverseOf p nodes         : the lines of the inverse of the coefficient square
 -- dataFrom p nodes x        : the data read back from the joined columns x
--- readTests p nodes x y     : the refusals of reading back, in their order
--- readOf p nodes x y        : reading back the columns x of the named nodes into y: the answer, and what y holds then
+-- readTests p nodes x y     : the refusals of reading back past those of a profile, in their order
+-- readWith p nodes x y      : reading back the columns x of the named nodes into y with the profile p: the answer, and
+--                             what y holds then
+-- readOf p nodes x y        : the same for any numbers p
 --
 -- From `square`: eliminated rows columns s t is how the elimination of s beside t ends, with `whole` and what became of t
 -- if each column has a pivot. That the test is true exactly where some two different data give equal columns,

@@ -5,7 +5,7 @@
 --                                   first + i·stride, is given for place i of qs
 -- rebuiltOver p f w x             : the column of f rebuilt from x over the walk w, where x b q is byte b at the place q
 -- rebuiltOf p f src first stride  : the column of f rebuilt from the strips of src, given in plan order
--- firstStrip                      : where the first strip of a bundle starts
+-- firstStrip p                    : where the first strip of a bundle starts
 -- rebuildTests p f r b y          : the refusals of a rebuild past those of a profile, in their order
 -- rebuildWith p f r b y           : rebuilding from the bundle b into y with the profile p: the answer, and what y holds
 --                                   then
@@ -34,7 +34,8 @@ use Rattle.document.specs.Places.{place, samePlace}
 use Rattle.document.specs.Bytes.{bytes, Byte, byte}
 use Rattle.document.specs.Encoding.{factorAt, columnOf}
 use Rattle.document.specs.Plan.{Walk, walkOf, chosenOver, planned}
-use Rattle.document.specs.Bundle.{recordingLength, headLength, stripFieldLength, bundleTests}
+use Rattle.document.specs.Message.{recordingLength, headLength, stripFieldLength}
+use Rattle.document.specs.Bundle.{lostContentLength, bundleTests}
 
 unfoldable pub positionOf : Place → List Place → ℕ
 positionOf q [] = 0
@@ -62,14 +63,14 @@ rebuildTests p f r b y =
     ∷ bundleTests p f r b
 
 -- The strips of a bundle lie past its head, each past the place and the recording of its field.
-abbrev pub firstStrip : ℕ
-firstStrip = headLength + openingLength + 2 + recordingLength
+abbrev pub firstStrip : Profile → ℕ
+firstStrip p = headLength p lostContentLength + openingLength + 2 + recordingLength
 
 -- 'The rebuilt column is the AS bytes that a rebuild not refused leaves in the buffer lent for writing.'
 unfoldable pub rebuildWith : Profile → Node → Recording → List ℕ → List ℕ → Answer × List ℕ
 rebuildWith p f r b y =
     tried (rebuildTests p f r b y) (λ refusal. (Refused refusal, y))
-    (Done 0, rebuiltOf p f b firstStrip (stripFieldLength (p .s)))
+    (Done 0, rebuiltOf p f b (firstStrip p) (stripFieldLength (p .s)))
 
 unfoldable pub rebuildOf : Numbers → ℕ → Recording → List ℕ → List ℕ → Answer × List ℕ
 rebuildOf p f r b y = onAccepted p (λ refusal. (Refused refusal, y)) (λ q. rebuildWith q (record { 0 = f }) r b y)

@@ -19,8 +19,8 @@ use Rattle.document.specs.declared.Refusal.the-variants.{
   StripLength,
   OutOfRange,
   BufferLength,
-  BundleForm,
-  BundleHead,
+  Form,
+  Head,
   Misplaced,
   Stale,
   Ambiguous,
@@ -35,8 +35,8 @@ numberOf Constant = 2
 numberOf StripLength = 3
 numberOf OutOfRange = 4
 numberOf BufferLength = 5
-numberOf BundleForm = 6
-numberOf BundleHead = 7
+numberOf Form = 6
+numberOf Head = 7
 numberOf (Misplaced i) = 8
 numberOf (Stale i) = 9
 numberOf Ambiguous = 10
@@ -48,8 +48,8 @@ indexOf Constant = 0
 indexOf StripLength = 0
 indexOf OutOfRange = 0
 indexOf BufferLength = 0
-indexOf BundleForm = 0
-indexOf BundleHead = 0
+indexOf Form = 0
+indexOf Head = 0
 indexOf (Misplaced i) = i
 indexOf (Stale i) = i
 indexOf Ambiguous = 0

@@ -6,12 +6,13 @@
 -- lookedAt p start most      : how many sets are looked at where none fails: B, or what is left if that is less
 -- foundFrom p start most     : the first failing position among them; the position after them if there is none
 -- resultOf p start most x    : what a survey that is not refused answers, and what the buffer x holds then
--- surveyTests p start x      : the refusals of a survey, in their order
--- surveyOf p start most x    : the survey into x: the answer, and what x holds then
+-- surveyTests p start x      : the refusals of a survey past those of a profile, in their order
+-- surveyWith p start most x  : the survey into x with the profile p: the answer, and what x holds then
+-- surveyOf p start most x    : the same for any numbers p; `most` is document 01's B
 -- surveyAnswer s             : the survey's answer as that of any call: refused, or answered, with the number of sets looked
 --                              at
 -- outcomeNumber s            : which of the three outcomes it is: 1 failing, 2 done, 3 open; 0 where it is refused
--- positionIn s               : the failing position; 0 where there is none
+-- failingPosition s          : the failing position; 0 where there is none
 -- lookedIn s                 : the number of sets looked at; 0 where it is refused
 --
 -- From `ksets`: sets n k is the number of sets of k of n nodes, setAt 0 n k pos the set at a position.
@@ -88,11 +89,11 @@ outcomeNumber (Done looked) = 2
 outcomeNumber (Open looked) = 3
 outcomeNumber (Refused r) = 0
 
-unfoldable pub positionIn : Surveyed → ℕ
-positionIn (Failing position looked) = position
-positionIn (Done looked) = 0
-positionIn (Open looked) = 0
-positionIn (Refused r) = 0
+unfoldable pub failingPosition : Surveyed → ℕ
+failingPosition (Failing position looked) = position
+failingPosition (Done looked) = 0
+failingPosition (Open looked) = 0
+failingPosition (Refused r) = 0
 
 unfoldable pub lookedIn : Surveyed → ℕ
 lookedIn (Failing position looked) = looked

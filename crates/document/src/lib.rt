@@ -60,10 +60,10 @@ pub enum Refusal {
     OutOfRange,
     // 5: a lent buffer other than the bundle to read has the wrong length
     BufferLength,
-    // 6: the bundle's total length, tags or field lengths
-    BundleForm,
-    // 7: the content of field 01 or 02
-    BundleHead,
+    // 6: a bundle's total length, tags or field lengths
+    Form,
+    // 7: the content of its field 01 or 02
+    Head,
     // 8: a strip's place, with the strip's index
     Misplaced(usize),
     // 9: a strip's scenario, with the strip's index
@@ -83,8 +83,8 @@ impl Refusal {
             Refusal::StripLength => 3,
             Refusal::OutOfRange => 4,
             Refusal::BufferLength => 5,
-            Refusal::BundleForm => 6,
-            Refusal::BundleHead => 7,
+            Refusal::Form => 6,
+            Refusal::Head => 7,
             Refusal::Misplaced(_) => 8,
             Refusal::Stale(_) => 9,
             Refusal::Ambiguous => 10,
@@ -226,7 +226,7 @@ impl Profile {
         (q.node.0 * self.a + q.row.0) * self.s
     }
 
-    // The coupling constant of the lower strip at a row and a local column: the only function that reads a profile's t.
+    // The coupling constant of the lower strip at a row and a local column: the only function that computes with a profile's t.
     pub fn constant(self, i: Row, l: usize) -> u8
         requires { ⌜ Accepted self ⌝ }
         ensures { λ r. ⌜ r ≡ number (constantOf self (i .0) l) ⌝ }

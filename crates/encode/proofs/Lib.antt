@@ -1,4 +1,2 @@
-pub mod Partners
-pub mod Pairs
 pub mod Rows
 pub mod Answers

@@ -3,9 +3,8 @@ ghost use mathlib.Core.Path.{_≡_};
 ghost use Prim.Native.Nat.{_*_, _<_, _≤_};
 ghost use lib.ListN.{length};
 ghost use Rattle.document.specs.Profile.{Accepted};
-ghost use Rattle.document.specs.Encoding.{baseAt, columnOf, plain, coupled, encodeWith, encodeOf};
+ghost use Rattle.document.specs.Encoding.{baseAt, columnOf, plain, encodeWith, encodeOf};
 ghost use Rattle.coefficients.specs.Data.{dataDenominators};
-ghost use Rattle.encode.specs.Steps.{pairCoupled};
 use document::Answer;
 use document::Checked;
 use document::Numbers;
@@ -48,37 +47,6 @@ fn put_rows(array: &mut [u8], p: Profile, input: &[u8])
     }
 }
 
-// Couples strip z with its partner, where z is the upper one of the two; otherwise the array stays as it is.
-fn couple_strip(x: &mut [u8], p: Profile, z: usize)
-    requires { ⌜ Accepted p × (length (now x) ≡ p .n * p .a * p .s) × (z < p .n * p .a) ⌝ }
-    ensures { λ _. ⌜ now (x .exit) ≡ pairCoupled p z (now (x .entry)) ⌝ }
-{
-    let q = p.place(z);
-    let i = q.row.0;
-    let l = q.node.0 % p.a;
-    if i < l {
-        let r = p.partner(q);
-        let row = r.row;
-        let upper = p.start(q);
-        let lower = p.start(r);
-        let t = p.constant(row, i);
-        strips::couple(x, upper, lower, p.s, t);
-    }
-}
-
-// Couples the rows of an array of any bytes, pair by pair in place.
-pub fn couple(x: &mut [u8], p: Profile)
-    requires { ⌜ Accepted p × (length (now x) ≡ p .n * p .a * p .s) ⌝ }
-    ensures { λ _. ⌜ now (x .exit) ≡ coupled p (now (x .entry)) ⌝ }
-{
-    let count = p.n * p.a;
-    let mut z: usize = 0;
-    while z < count {
-        couple_strip(x, p, z);
-        z += 1;
-    }
-}
-
 // Encodes with an accepted profile.
 fn encode_with(p: Profile, input: &[u8], array: &mut [u8]) -> Answer
     requires { ⌜ Accepted p ⌝ }
@@ -91,7 +59,7 @@ fn encode_with(p: Profile, input: &[u8], array: &mut [u8]) -> Answer
         return Answer::Refused(Refusal::BufferLength);
     }
     put_rows(array, p, input);
-    couple(array, p);
+    coupling::couple(array, p);
     Answer::Done(0)
 }
 

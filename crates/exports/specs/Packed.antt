@@ -13,7 +13,7 @@ use Rattle.document.specs.declared.Numbers.{Numbers}
 use Rattle.document.specs.declared.Answer.{Answer}
 use Rattle.document.specs.declared.Surveyed.{Surveyed}
 use Rattle.document.specs.Refusals.{answerNumber, answerValue}
-use Rattle.document.specs.Survey.{surveyOf, surveyAnswer, outcomeNumber, positionIn, lookedIn}
+use Rattle.document.specs.Survey.{surveyOf, surveyAnswer, outcomeNumber, failingPosition, lookedIn}
 
 unfoldable pub packed : Answer → ℕ
 packed answer = answerNumber answer + 256 * answerValue answer
@@ -28,7 +28,7 @@ outcomePacked outcome position looked = outcome + 4 * (position + 2 ^ 22 * looke
 unfoldable pub packedSurvey : Surveyed → ℕ
 packedSurvey s =
     answerNumber (surveyAnswer s)
-    + 256 * outcomePacked (outcomeNumber s) (positionIn s) (lookedIn s)
+    + 256 * outcomePacked (outcomeNumber s) (failingPosition s) (lookedIn s)
 
 abbrev pub packedSurveyWith : {X : Type 0} → Surveyed × X → ℕ × X
 packedSurveyWith (answer, x) = (packedSurvey answer, x)
@@ -37,4 +37,4 @@ packedSurveyWith (answer, x) = (packedSurvey answer, x)
 abbrev pub SurveyFits : Type 0
 SurveyFits =
     (p : Numbers) (start most : ℕ) (x : List ℕ)
-    → (positionIn (surveyOf p start most x .0) < 2 ^ 22) × (lookedIn (surveyOf p start most x .0) < 2 ^ 22)
+    → (failingPosition (surveyOf p start most x .0) < 2 ^ 22) × (lookedIn (surveyOf p start most x .0) < 2 ^ 22)

@@ -9,7 +9,7 @@ ghost use Rattle.document.specs.Plan.{planOf};
 ghost use Rattle.document.specs.Bundle.{writeOf};
 ghost use Rattle.document.specs.Rebuild.{rebuildOf};
 ghost use Rattle.document.specs.Reading.{readOf};
-ghost use Rattle.document.specs.Survey.{surveyOf, positionIn, lookedIn};
+ghost use Rattle.document.specs.Survey.{surveyOf, failingPosition, lookedIn};
 ghost use Rattle.exports.specs.Packed.{packed, packedWith, outcomePacked, packedSurvey, packedSurveyWith};
 use document::Answer;
 use document::Numbers;
@@ -129,7 +129,7 @@ fn pack_outcome(outcome: u64, position: usize, looked: usize) -> u64
 
 // The answer of a survey.
 fn pack_survey(answer: Surveyed) -> u64
-    requires { ⌜ (positionIn answer < 2 ^ 22) × (lookedIn answer < 2 ^ 22) ⌝ }
+    requires { ⌜ (failingPosition answer < 2 ^ 22) × (lookedIn answer < 2 ^ 22) ⌝ }
     ensures { λ r. ⌜ r ≡ packedSurvey answer ⌝ }
 {
     match answer {

@@ -8,7 +8,7 @@ use native.Mathlib.Decide.{decLt}
 use native.Mathlib.Omega.{arith}
 use lib.Arith.{digits-div, digits-mod, digits-lt}
 use lib.ListN.{length, getD}
-use borrow.Author.Tests.{le-ltb, ltb-true}
+use borrow.Author.Tests.{le-ltb, ltb-true, not-true, not-false}
 use Rattle.lists.proofs.Once.{once-each, once-has, rising-once}
 use Rattle.lists.proofs.Each.{each-at}
 use Rattle.ksets.specs.Sets.{Rising}
@@ -35,22 +35,14 @@ use Rattle.document.proofs.Arrays.{laid-byte}
 use Rattle.document.proofs.Rows.{row-word, row-data}
 use Rattle.document.proofs.Columns.{array, coupled-code, nodes-distinct, encoded-at}
 use Rattle.document.proofs.Reading.{laid-data, data-ext, joined-byte, joined-data, joined-only, two-ambiguous, ambiguous-two}
-use Rattle.coefficients.specs.Weights.{positionIn}
-use Rattle.half_pairs.specs.HalfPairs.{named, isNamed, partnerAt, halfPairs, halfPairAt, systemAt}
+use Rattle.lists.specs.Positions.{positionIn}
+use Rattle.half_pairs.specs.HalfPairs.{named, isNamed, partnerAt, halfPairs, halfPairAt, systemAt, joinedAt}
 use Rattle.half_pairs.proofs.Named.{named-choice, named-positions}
 use Rattle.half_pairs.proofs.Selected.{sum-rising}
 
 infixl 65 _⊕_
 infixl 70 _⊗_
 open Field bytes using (𝟘, add as _⊕_, mul as _⊗_)
-
-pub not-true : (b : Bool) → not b ≡ true → b ≡ false
-not-true true e = sym e
-not-true false e = refl
-
-not-false : (b : Bool) → not b ≡ false → b ≡ true
-not-false true e = refl
-not-false false e = sym e
 
 module _ (p : Profile) (nodes : List ℕ) where
   open Profile p using (n, k, a as A, s as S)
@@ -59,16 +51,12 @@ module _ (p : Profile) (nodes : List ℕ) where
   abbrev pub U : ℕ
   U = length (halfPairs p nodes)
 
-  -- the joined columns x at byte offset b, by row and node
-  abbrev pub given : List ℕ → ℕ → Array bytes
-  given x b i j = byte (getD x ((positionIn nodes j * A + i) * S + b) 0)
-
   -- what the strips give, for the algebra
   abbrev pub knownOf : List ℕ → ℕ → ℕ → ℕ → Byte
-  knownOf x b = known bytes A k byte (factorAt p) (named nodes) (positionIn nodes) (given x b)
+  knownOf x b = known bytes A k byte (factorAt p) (named nodes) (positionIn nodes) (joinedAt p nodes x b)
 
   abbrev pub knownPartnerOf : List ℕ → ℕ → ℕ → Byte
-  knownPartnerOf x b = knownPartner bytes A k byte (factorAt p) (named nodes) (positionIn nodes) (given x b)
+  knownPartnerOf x b = knownPartner bytes A k byte (factorAt p) (named nodes) (positionIn nodes) (joinedAt p nodes x b)
 
   abbrev pub factorOf : ℕ → ℕ → Byte
   factorOf = halfFactor bytes A k byte (factorAt p) (named nodes) (positionIn nodes)
@@ -86,9 +74,11 @@ module _ (p : Profile) (nodes : List ℕ) where
 
     -- the half pairs, by the test
     pub half-each : (e : ℕ) → e < U
-        → (not (isNamed k nodes (partnerAt p nodes (halfPairAt p nodes e) .node .0)) ≡ true) × (halfPairAt p nodes e < k * A)
+        → (isNamed k nodes (partnerAt p nodes (halfPairAt p nodes e) .node .0) ≡ false) × (halfPairAt p nodes e < k * A)
     unfolding halfPairs
-    half-each e h = each-at 0 (once-each (k * A) _ _ (rising-once (k * A) _)) e h
+    half-each e h =
+        let t = each-at 0 (once-each (k * A) _ _ (rising-once (k * A) _)) e h in
+        (not-true _ (t .0), t .1)
 
     selected : Selected bytes (k * A) U
         (λ y. positionIn nodes (opposite A (named nodes) (y % A) (y / A)) < k) (halfPairAt p nodes)
@@ -112,7 +102,7 @@ module _ (p : Profile) (nodes : List ℕ) where
       symbols = array (baseAt p d) b
 
       stores : (i q : ℕ) → i < A → q < k
-          → given x b i (named nodes q) ≡ stored bytes A (factorAt p) symbols i (named nodes q)
+          → joinedAt p nodes x b i (named nodes q) ≡ stored bytes A (factorAt p) symbols i (named nodes q)
       stores i q r h =
           ap (λ (m : ℕ). byte (getD x ((m * A + i) * S + b) 0)) (positions .there q h)
           ∙ ap (λ (y : List ℕ). byte (getD y ((q * A + i) * S + b) 0)) (sym columns)
@@ -126,14 +116,14 @@ module _ (p : Profile) (nodes : List ℕ) where
       solved I =
           I .unique _ _
           (partners-solve bytes (coupled-code p acc) (named nodes) (positionIn nodes) choice positions U
-          (halfPairAt p nodes) selected symbols (given x b) (λ i r. row-word p d b i) stores)
+          (halfPairAt p nodes) selected symbols (joinedAt p nodes x b) (λ i r. row-word p d b i) stores)
 
       pub symbol-is : (i q : ℕ) → i < A → q < k
           → symbols i (named nodes q)
           ≡ knownOf x b i q ⊕ factorOf i q ⊗ symbols (named nodes q % A) (opposite A (named nodes) i q)
       symbol-is =
-          named-symbol bytes (coupled-code p acc) (named nodes) (positionIn nodes) choice positions symbols (given x b)
-          (λ i r. row-word p d b i) stores
+          named-symbol bytes (coupled-code p acc) (named nodes) (positionIn nodes) choice positions symbols
+          (joinedAt p nodes x b) (λ i r. row-word p d b i) stores
 
     -- ---- the system has an inverse: data are fixed by their columns on the named nodes
     module _ {T : Matrix bytes} (I : Inverse bytes U U (systemAt p nodes) T) (d c x : List ℕ)
@@ -212,33 +202,29 @@ module _ (p : Profile) (nodes : List ℕ) where
             absurd (two .differ (data-fixed I _ _ (two .first-data) (two .second-data) (two .alike)))
 
     -- ---- the system takes a vector other than zero to zero
-    -- data laid out from a base array have it as their base symbols
+    -- data laid out from a base array
+    abbrev dataOf : Array bytes → List ℕ
+    dataOf a = laidOut p k (λ b q. a (q .row .0) (q .node .0))
+
+    -- have it as their base symbols
     laid-base : (a : Array bytes) → ((i : ℕ) → i < A → Codeword bytes n byte k (a i))
-        → (b i j : ℕ) → b < S → i < A → j < n
-        → baseAt p (laidOut p k (λ b q. a (q .row .0) (q .node .0))) b (place j i) ≡ a i j
+        → (b i j : ℕ) → b < S → i < A → j < n → baseAt p (dataOf a) b (place j i) ≡ a i j
     laid-base a word b i j l r h =
-        determined bytes n byte (nodes-distinct p acc) k (λ q. q) first (row-word p d b i) (word i r)
-        (λ q m. row-data p d b i acc q m ∙ laid-byte p k (λ b q. a (q .row .0) (q .node .0)) b q i l m r)
+        determined bytes n byte (nodes-distinct p acc) k (λ q. q) first (row-word p (dataOf a) b i) (word i r)
+        (λ q m. row-data p (dataOf a) b i acc q m ∙ laid-byte p k (λ b q. a (q .row .0) (q .node .0)) b q i l m r)
         j h
       where
-        d : List ℕ
-        d = laidOut p k (λ b q. a (q .row .0) (q .node .0))
-
         first : Choice k n (λ q. q)
         first = record { below = λ q b. omega (arith, acc .shape .some-parity); apart = λ i j b c e. omega arith }
 
     laid-stored : (a : Array bytes) → ((i : ℕ) → i < A → Codeword bytes n byte k (a i))
         → (b i j : ℕ) → b < S → i < A → j < n
-        → byteAt p (encoded p (laidOut p k (λ b q. a (q .row .0) (q .node .0)))) b (place j i)
-        ≡ stored bytes A (factorAt p) a i j
+        → byteAt p (encoded p (dataOf a)) b (place j i) ≡ stored bytes A (factorAt p) a i j
     laid-stored a word b i j l r h =
-        encoded-at p acc d b l i j r h
-        ∙ stored-ext bytes A (factorAt p) (array (baseAt p d) b) a i j (laid-base a word b i j l r h)
+        encoded-at p acc (dataOf a) b l i j r h
+        ∙ stored-ext bytes A (factorAt p) (array (baseAt p (dataOf a)) b) a i j (laid-base a word b i j l r h)
         (ap (λ (y : Byte). factorAt p i (j % A) ⊗ y)
         (laid-base a word b (j % A) _ l (mod-lt j (A>0 p acc)) (coupled-code p acc .partners i j r h)))
-      where
-        d : List ℕ
-        d = laidOut p k (λ b q. a (q .row .0) (q .node .0))
 
     -- the base array of zeros
     zeros : Array bytes
@@ -287,9 +273,6 @@ module _ (p : Profile) (nodes : List ℕ) where
 
         some : 0 < S
         some = acc .some-bytes
-
-        dataOf : Array bytes → List ℕ
-        dataOf a = laidOut p k (λ b q. a (q .row .0) (q .node .0))
 
     -- So the nodes are ambiguous.
     pub kernel-ambiguous : Kernel bytes U U (systemAt p nodes) → ambiguous p nodes ≡ true

@@ -2,15 +2,17 @@
 use mathlib.Core.Path.{_≡_, refl, sym, ap, ap₂, subst, _∙_}
 use mathlib.Core.Bool.{Bool, true, false, cond}
 use mathlib.Core.List.{List}
-use Prim.Native.Nat.{ℕ, zero, suc, _*_, _/_, _%_, _≤_, _<_}
+use Prim.Native.Nat.{ℕ, _*_, _/_, _%_, _≤_, _<_}
 use native.Mathlib.Decide.{ℕ-discrete, decLt}
 use native.Mathlib.Omega.{arith}
 use lib.Dec.{eqb, ltb}
-use lib.ListN.{length, getD, set, replicate, length-replicate, length-set, getD-replicate, List·getD-eq-default}
+use lib.ListN.{length, getD, set, take, replicate}
+use lib.ListN.{length-replicate, length-take, length-set, getD-replicate}
 use lib.Seq.{ext-getD}
 use borrow.Author.Tests.{lt-ltb, le-ltb, ltb-false, eq-eqb, ne-eqb}
 use Rattle.lists.specs.Listed.{listed}
-use Rattle.lists.proofs.Listed.{listed-length, listed-at}
+use Rattle.lists.proofs.Listed.{listed-length, listed-at, listed-holds, replicate-holds}
+use Rattle.lists.proofs.Put.{wrote-front}
 use Rattle.lists.proofs.Rising.{rising-length}
 use Rattle.ksets.specs.Sets.{Rising}
 use Rattle.gf256.specs.Field.{_⊕_}
@@ -21,8 +23,8 @@ use Rattle.algebra.proofs.Elimination.{kernel-ext, inverse-ext}
 use Rattle.algebra.proofs.Pick.{pick-yes, pick-no}
 use Rattle.square.specs.declared.Line.{Line}
 use Rattle.square.specs.declared.Verdict.the-variants.{Regular, Singular}
-use Rattle.square.specs.Steps.{noLine, lineAt, entry, filled}
-use Rattle.square.specs.Elimination.{Ended, whole, stuck, verdictAndLines, singular}
+use Rattle.square.specs.Steps.{noLine, lineAt, entry, filled, unitSquare}
+use Rattle.square.specs.Elimination.{Ended, whole, stuck, eliminated, verdictAndLines, singular}
 use Rattle.square.proofs.Steps.{filled-at, filled-rest, filled-length, set-at}
 use Rattle.document.specs.declared.Profile.{Profile}
 use Rattle.document.specs.declared.Place.{Place}
@@ -34,7 +36,8 @@ use Rattle.document.proofs.Bounds.{square-bound}
 use Rattle.document.proofs.Bytes.{number-lt, byte-number, number-zero, number-one, number-add}
 use Rattle.document.proofs.SquareSteps.{matrix, Shaped, unit-square}
 use Rattle.document.proofs.Squares.{singular-kernel, regular}
-use Rattle.coefficients.specs.Weights.{positionIn}
+use Rattle.lists.specs.Positions.{positionIn}
+use Rattle.half_pairs.specs.declared.HalfPairs.{HalfPairs}
 use Rattle.half_pairs.specs.HalfPairs.{
   named,
   isNamed,
@@ -47,14 +50,9 @@ use Rattle.half_pairs.specs.HalfPairs.{
   systemLine,
   systemSquare,
   systemEnd,
+  HalfPairsOf,
 }
-use Rattle.half_pairs.proofs.Symbols.{inverse-clear, kernel-ambiguous}
-
--- an entry of a list that repeats one thing, or of nothing past its end
-repeated {ℓ} : {X : Type ℓ} (P : X → Type 0) (n i : ℕ) (v d : X) → P v → P d → P (getD (replicate n v) i d)
-repeated P zero i v d a b = b
-repeated P (suc n) zero v d a b = a
-repeated P (suc n) (suc i) v d a b = repeated P n i v d a b
+use Rattle.half_pairs.proofs.Symbols.{U, inverse-clear, kernel-ambiguous}
 
 -- a line of zeros
 abbrev blank : Line
@@ -63,11 +61,8 @@ blank = record { c = replicate 80 0 }
 module _ (p : Profile) (nodes : List ℕ) where
   open Profile p using (k, a as A)
 
-  abbrev U : ℕ
-  U = length (halfPairs p nodes)
-
   -- at the partner of strip z it is the algebra's
-  pub coefficient-is : (z y : ℕ)
+  coefficient-is : (z y : ℕ)
       → coefficientIn p nodes (partnerAt p nodes z) y
       ≡ partnerCoefficient bytes A k byte (factorAt p) (named nodes) (positionIn nodes) z y
   unfolding coefficientIn partnerCoefficient
@@ -95,7 +90,8 @@ module _ (p : Profile) (nodes : List ℕ) where
   abbrev pub coefficientEntry : ℕ → ℕ → ℕ
   coefficientEntry e f = number (coefficientIn p nodes (partnerAt p nodes (halfPairAt p nodes e)) (halfPairAt p nodes f))
 
-  pub line-done : (e : ℕ) → e < U → U ≤ 80 → (c : List ℕ) → c ≡ filled (coefficientEntry e) (replicate 80 0) U
+  pub line-done : (e : ℕ) → e < U p nodes → U p nodes ≤ 80 → (c : List ℕ)
+      → c ≡ filled (coefficientEntry e) (replicate 80 0) (U p nodes)
       → set c e (getD c e 0 ⊕ 1) ≡ systemLine p nodes e
   unfolding systemLine system
   line-done e h few c made =
@@ -103,43 +99,41 @@ module _ (p : Profile) (nodes : List ℕ) where
       (λ f l. at f (omega (arith, l, length-set c e (getD c e 0 ⊕ 1), size)))
     where
       size : length c ≡ 80
-      size = ap length made ∙ filled-length (coefficientEntry e) (replicate 80 0) U ∙ length-replicate {A = ℕ} 80 0
-
-      own : getD c e 0 ≡ coefficientEntry e e
-      own =
-          ap (λ (x : List ℕ). getD x e 0) made
-          ∙ filled-at (coefficientEntry e) (replicate 80 0) U e 0 h (omega (arith, few, length-replicate {A = ℕ} 80 0))
+      size =
+          ap length made ∙ filled-length (coefficientEntry e) (replicate 80 0) (U p nodes)
+          ∙ length-replicate {A = ℕ} 80 0
 
       wanted : ℕ → ℕ
-      wanted f = cond (ltb f U) (number (systemAt p nodes e f)) 0
+      wanted f = cond (ltb f (U p nodes)) (number (systemAt p nodes e f)) 0
 
       at : (f : ℕ) → f < 80 → getD (set c e (getD c e 0 ⊕ 1)) f 0 ≡ getD (listed 80 wanted) f 0
       at f l =
-          set-at c e (getD c e 0 ⊕ 1) f (omega (arith, size, few)) ∙ go (ℕ-discrete f e) (decLt f U)
+          set-at c e (getD c e 0 ⊕ 1) f (omega (arith, size, few)) ∙ go (ℕ-discrete f e) (decLt f (U p nodes))
           ∙ sym (listed-at 80 wanted f 0 l)
         where
           rel : Byte
           rel = coefficientIn p nodes (partnerAt p nodes (halfPairAt p nodes e)) (halfPairAt p nodes f)
 
-          inside : f < U → getD c f 0 ≡ number rel
+          inside : f < U p nodes → getD c f 0 ≡ number rel
           inside t =
               ap (λ (x : List ℕ). getD x f 0) made
-              ∙ filled-at (coefficientEntry e) (replicate 80 0) U f 0 t (omega (arith, few, length-replicate {A = ℕ} 80 0))
+              ∙ filled-at (coefficientEntry e) (replicate 80 0) (U p nodes) f 0 t
+              (omega (arith, few, length-replicate {A = ℕ} 80 0))
 
-          outside : U ≤ f → getD c f 0 ≡ 0
+          outside : U p nodes ≤ f → getD c f 0 ≡ 0
           outside t =
               ap (λ (x : List ℕ). getD x f 0) made
-              ∙ filled-rest (coefficientEntry e) (replicate 80 0) U f 0 t ∙ getD-replicate 80 f 0 0 l
+              ∙ filled-rest (coefficientEntry e) (replicate 80 0) (U p nodes) f 0 t ∙ getD-replicate 80 f 0 0 l
 
-          entry-is : f < U → number (bytes .add (unit bytes e f) rel) ≡ wanted f
+          entry-is : f < U p nodes → number (bytes .add (unit bytes e f) rel) ≡ wanted f
           entry-is t =
               ap (λ (x : Byte). number (bytes .add (unit bytes e f) x))
               (coefficient-is (halfPairAt p nodes e) (halfPairAt p nodes f))
-              ∙ sym (ap (λ (b : Bool). cond b (number (systemAt p nodes e f)) 0) (lt-ltb f U t))
+              ∙ sym (ap (λ (b : Bool). cond b (number (systemAt p nodes e f)) 0) (lt-ltb f (U p nodes) t))
 
-          go : Dec (f ≡ e) → Dec (f < U) → cond (eqb f e) (getD c e 0 ⊕ 1) (getD c f 0) ≡ wanted f
+          go : Dec (f ≡ e) → Dec (f < U p nodes) → cond (eqb f e) (getD c e 0 ⊕ 1) (getD c f 0) ≡ wanted f
           go (yes d) t =
-              let below : f < U = omega (arith, d, h) in
+              let below : f < U p nodes = omega (arith, d, h) in
               ap (λ (b : Bool). cond b (getD c e 0 ⊕ 1) (getD c f 0)) (eq-eqb f e d)
               ∙ ap (λ (m : ℕ). getD c m 0 ⊕ 1) (sym d) ∙ ap₂ _⊕_ (inside below) (sym number-one)
               ∙ sym (number-add rel (bytes .𝟙)) ∙ ap number (bytes .add-comm rel (bytes .𝟙))
@@ -149,81 +143,77 @@ module _ (p : Profile) (nodes : List ℕ) where
               ∙ ap number (sym (zero-add bytes rel))
               ∙ ap (λ (x : Byte). number (bytes .add x rel)) (sym (pick-no (ℕ-discrete f e) _ _ d)) ∙ entry-is t
           go (no d) (no t) =
-              let far : U ≤ f = omega arith in
+              let far : U p nodes ≤ f = omega arith in
               ap (λ (b : Bool). cond b (getD c e 0 ⊕ 1) (getD c f 0)) (ne-eqb f e d) ∙ outside far
-              ∙ sym (ap (λ (b : Bool). cond b (number (systemAt p nodes e f)) 0) (le-ltb f U far))
+              ∙ sym (ap (λ (b : Bool). cond b (number (systemAt p nodes e f)) 0) (le-ltb f (U p nodes) far))
 
   -- ---- the square
   abbrev made : ℕ → Line
   made e = record { c = systemLine p nodes e }
 
   -- a line of it
-  square-line : U ≤ 80 → (e : ℕ) → e < U → lineAt (systemSquare p nodes) e ≡ systemLine p nodes e
+  square-line : U p nodes ≤ 80 → (e : ℕ) → e < U p nodes → lineAt (systemSquare p nodes) e ≡ systemLine p nodes e
   unfolding systemSquare
   square-line few e h =
       ap (λ (l : Line). l .c)
-      (filled-at made (replicate 80 blank) U e noLine h (omega (arith, few, length-replicate {A = Line} 80 blank)))
+      (filled-at made (replicate 80 blank) (U p nodes) e noLine h
+      (omega (arith, few, length-replicate {A = Line} 80 blank)))
 
   line-length : (e : ℕ) → length (systemLine p nodes e) ≡ 80
   unfolding systemLine
   line-length e = listed-length 80 _
 
-  line-at : U ≤ 80 → (e f : ℕ) → f < U → getD (systemLine p nodes e) f 0 ≡ number (systemAt p nodes e f)
+  line-at : U p nodes ≤ 80 → (e f : ℕ) → f < U p nodes → getD (systemLine p nodes e) f 0 ≡ number (systemAt p nodes e f)
   unfolding systemLine
   line-at few e f h =
       listed-at 80 _ f 0 (omega arith)
-      ∙ ap (λ (b : Bool). cond b (number (systemAt p nodes e f)) 0) (lt-ltb f U h)
+      ∙ ap (λ (b : Bool). cond b (number (systemAt p nodes e f)) 0) (lt-ltb f (U p nodes) h)
 
   -- each entry is a byte, a missing one too
   line-small : (e f : ℕ) → getD (systemLine p nodes e) f 0 < 256
   unfolding systemLine
-  line-small e f = go (decLt f 80)
+  line-small e =
+      listed-holds (λ (v : ℕ). v < 256) 0 (omega arith) 80 (λ f. cond (ltb f (U p nodes)) (number (systemAt p nodes e f)) 0)
+      (λ f. byte-or-none (ltb f (U p nodes)) f)
     where
-      entryAt : ℕ → ℕ
-      entryAt f = cond (ltb f U) (number (systemAt p nodes e f)) 0
+      byte-or-none : (b : Bool) (f : ℕ) → cond b (number (systemAt p nodes e f)) 0 < 256
+      byte-or-none true f = number-lt _
+      byte-or-none false f = omega arith
 
-      byte-or-none : (b : Bool) → cond b (number (systemAt p nodes e f)) 0 < 256
-      byte-or-none true = number-lt _
-      byte-or-none false = omega arith
-
-      go : Dec (f < 80) → getD (listed 80 entryAt) f 0 < 256
-      go (yes h) = rw (listed-at 80 entryAt f 0 h) (byte-or-none (ltb f U))
-      go (no h) =
-          let short : length (listed 80 entryAt) ≤ f = omega (arith, listed-length 80 entryAt) in
-          rw (List·getD-eq-default (listed 80 entryAt) 0 short) (omega arith)
-
-  square-small : U ≤ 80 → (e f : ℕ) → entry (systemSquare p nodes) e f < 256
+  square-small : U p nodes ≤ 80 → (e f : ℕ) → entry (systemSquare p nodes) e f < 256
   unfolding systemSquare
-  square-small few e f = go (decLt e U)
+  square-small few e f = go (decLt e (U p nodes))
     where
       Small : List ℕ → Type 0
       Small l = getD l f 0 < 256
 
-      go : Dec (e < U) → Small (lineAt (systemSquare p nodes) e)
+      go : Dec (e < U p nodes) → Small (lineAt (systemSquare p nodes) e)
       go (yes h) = subst Small (sym (square-line few e h)) (line-small e f)
       go (no h) =
           subst Small
           (sym (ap (λ (l : Line). l .c)
-          (filled-rest made (replicate 80 blank) U e noLine (omega arith))))
-          (repeated (λ l. Small (l .c)) 80 e blank noLine (repeated (λ v. v < 256) 80 f 0 0 (omega arith) (omega arith))
-          (omega arith))
+          (filled-rest made (replicate 80 blank) (U p nodes) e noLine (omega arith))))
+          (replicate-holds (λ (l : Line). Small (l .c)) noLine (omega arith) 80 blank
+          (replicate-holds (λ (v : ℕ). v < 256) 0 (omega arith) 80 0 (omega arith) f) e)
 
-  pub system-shaped : U ≤ 80 → Shaped U U (systemSquare p nodes)
+  pub system-shaped : U p nodes ≤ 80 → Shaped (U p nodes) (U p nodes) (systemSquare p nodes)
   unfolding systemSquare
   system-shaped few = record {
-    long = omega (arith, few, filled-length made (replicate 80 blank) U, length-replicate {A = Line} 80 blank);
+    long =
+        omega (arith, few, filled-length made (replicate 80 blank) (U p nodes), length-replicate {A = Line} 80 blank);
     wide = λ e h. omega (arith, few, ap length (square-line few e h) ∙ line-length e);
     small = square-small few;
   }
 
-  pub system-matrix : U ≤ 80 → (e f : ℕ) → e < U → f < U → matrix (systemSquare p nodes) e f ≡ systemAt p nodes e f
+  pub system-matrix : U p nodes ≤ 80 → (e f : ℕ) → e < U p nodes → f < U p nodes
+      → matrix (systemSquare p nodes) e f ≡ systemAt p nodes e f
   unfolding matrix
   system-matrix few e f h l =
       ap (λ (x : List ℕ). byte (getD x f 0)) (square-line few e h) ∙ ap byte (line-at few e f l) ∙ byte-number _
 
   -- ---- its verdict tells whether the nodes are ambiguous
   module _ (acc : Accepted p) (rises : Rising (p .n) k nodes) where
-    pub few-halves : U ≤ 80
+    pub few-halves : U p nodes ≤ 80
     unfolding halfPairs
     few-halves = omega (arith, rising-length (isHalfPair p nodes) (k * A), square-bound p acc)
 
@@ -239,11 +229,11 @@ module _ (p : Profile) (nodes : List ℕ) where
 
     -- and the lines are those of the inverse
     pub regular-inverse : verdictAndLines (systemEnd p nodes) .verdict ≡ Regular
-        → Inverse bytes U U (systemAt p nodes) (matrix (verdictAndLines (systemEnd p nodes) .lines))
+        → Inverse bytes (U p nodes) (U p nodes) (systemAt p nodes) (matrix (verdictAndLines (systemEnd p nodes) .lines))
     regular-inverse e = go (systemEnd p nodes) refl e
       where
         go : (x : Ended) → systemEnd p nodes ≡ x → verdictAndLines x .verdict ≡ Regular
-            → Inverse bytes U U (systemAt p nodes) (matrix (verdictAndLines x .lines))
+            → Inverse bytes (U p nodes) (U p nodes) (systemAt p nodes) (matrix (verdictAndLines x .lines))
         go (whole t) f q =
             inverse-ext bytes (system-matrix few-halves) (λ i j h l. refl)
             (regular (system-shaped few-halves) (unit-square 80 few-halves) f)
@@ -251,3 +241,18 @@ module _ (p : Profile) (nodes : List ℕ) where
 
     pub regular-clear : verdictAndLines (systemEnd p nodes) .verdict ≡ Regular → ambiguous p nodes ≡ false
     regular-clear e = inverse-clear p nodes acc rises (regular-inverse e)
+
+-- ---- as the code has it
+module _ {p : Profile} {nodes : List ℕ} {h : HalfPairs} (made : HalfPairsOf p nodes h) where
+  pub count-few : Accepted p → Rising (p .n) (p .k) nodes → h .count ≤ 80
+  count-few acc rises = omega (arith, few-halves p nodes acc rises, made .count)
+
+  pub halves-front : take (h .count) (h .halves) ≡ halfPairs p nodes
+  halves-front = wrote-front {n = h .count} (record { ends = omega (arith, made .count); holds = made .halves }) .1
+
+  pub halves-fit : h .count ≤ length (h .halves)
+  halves-fit = omega (arith, made .count, ap length halves-front, length-take (h .count) (h .halves))
+
+  pub system-end : {lines : List Line} → lines ≡ systemSquare p nodes
+      → eliminated (h .count) (h .count) lines (unitSquare 80) ≡ systemEnd p nodes
+  system-end e = rw (made .count, e)

@@ -19,7 +19,8 @@ use Rattle.document.specs.declared.Profile.{Profile}
 use Rattle.document.specs.Profile.{Accepted}
 use Rattle.document.specs.Bytes.{bytes, byte, number}
 use Rattle.document.proofs.Bounds.{room, table-bound}
-use Rattle.coefficients.specs.Weights.{Different, Outside, positionIn, points, weightsOf}
+use Rattle.coefficients.specs.Weights.{Different, Outside, points, weightsOf}
+use Rattle.lists.specs.Positions.{positionIn}
 use Rattle.coefficients.proofs.Lagrange.{weights-length, weights-at}
 use Rattle.half_pairs.specs.HalfPairs.{named, isNamed, weightRow, nodeWeights, weightTable}
 use Rattle.half_pairs.proofs.Named.{named-choice, named-positions}

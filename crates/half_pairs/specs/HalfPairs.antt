@@ -13,22 +13,27 @@
 -- halfPairs p nodes          : the numbers of the half pairs, rising
 -- halfPairAt p nodes e       : the e-th half pair
 -- nodeWeights p nodes        : the rows of weights of all nodes, node after node
--- weightTable p nodes        : the same in a table of 576 bytes, 24 times 24, with zeros past them
+-- weightTable p nodes        : the same in a table of 576 bytes, room for 24 times 24, with zeros past them
 -- coefficientIn p nodes r y  : the coefficient of the partner of strip y in the equation for the base symbol at the place
 --                              r; 𝟘 where y is in another row
 -- systemAt p nodes e f       : the entry of the system for the e-th and the f-th half pair
 -- systemLine p nodes e       : its line e, in 80 bytes: zeros past its entries
 -- systemSquare p nodes       : the system in an array of 80 lines: zeros past its lines
 -- systemEnd p nodes          : how its elimination ends
+-- HalfPairsOf p nodes h      : h holds what the system of the named nodes is made of: zeros past the half pairs
+-- joinedAt p nodes x b i j   : byte b of the strip that the joined columns x have for row i of the named node j
+use mathlib.Core.Path.{_≡_}
 use mathlib.Core.Bool.{Bool, not, cond}
 use mathlib.Core.List.{List, _++_}
-use Prim.Native.Nat.{ℕ, _*_, _/_, _%_}
+use Prim.Native.Nat.{ℕ, _+_, _*_, _/_, _%_}
 use native.Mathlib.Decide.{ℕ-discrete}
 use lib.Dec.{ltb}
 use lib.ListN.{length, getD, drop, replicate}
 use Rattle.lists.specs.Listed.{listed, rising}
+use Rattle.lists.specs.Put.{put}
 use Rattle.algebra.specs.Field.{Field}
 use Rattle.algebra.specs.Pick.{pick}
+use Rattle.algebra.specs.Coupling.{Array}
 use Rattle.algebra.specs.HalfPairs.{weightAt, halfFactor, system}
 use Rattle.square.specs.declared.Line.{Line}
 use Rattle.square.specs.Steps.{filled, unitSquare}
@@ -39,7 +44,9 @@ use Rattle.document.specs.Places.{partnerOf}
 use Rattle.document.specs.Bytes.{bytes, Byte, byte, number}
 use Rattle.document.specs.Encoding.{factorAt}
 use Rattle.document.specs.Reading.{joinedPlace}
-use Rattle.coefficients.specs.Weights.{positionIn, weightsOf}
+use Rattle.coefficients.specs.Weights.{weightsOf}
+use Rattle.lists.specs.Positions.{positionIn}
+use Rattle.half_pairs.specs.declared.HalfPairs.{HalfPairs}
 
 infixl 70 _⊗_
 open Field bytes using (𝟘, mul as _⊗_)
@@ -57,7 +64,7 @@ unfoldable pub weightRow : ℕ → List ℕ → ℕ → List ℕ
 weightRow k nodes j = cond (isNamed k nodes j) (listed k (λ q. 0)) (weightsOf nodes j)
 
 module _ (p : Profile) (nodes : List ℕ) where
-  open Profile p using (n, k, a as A)
+  open Profile p using (n, k, a as A, s as S)
 
   abbrev pub partnerAt : ℕ → Place
   partnerAt z = partnerOf A (joinedPlace p nodes z)
@@ -97,3 +104,12 @@ module _ (p : Profile) (nodes : List ℕ) where
 
   abbrev pub systemEnd : Ended
   systemEnd = eliminated (length halfPairs) (length halfPairs) systemSquare (unitSquare 80)
+
+  pub record HalfPairsOf (h : HalfPairs) : Type 0 where
+    pub positions : h .positions ≡ positionTable nodes
+    pub halves : h .halves ≡ put (replicate 80 0) 0 halfPairs
+    pub count : h .count ≡ length halfPairs
+    pub table : h .table ≡ weightTable
+
+  abbrev pub joinedAt : List ℕ → ℕ → Array bytes
+  joinedAt x b i j = byte (getD x ((positionIn nodes j * A + i) * S + b) 0)

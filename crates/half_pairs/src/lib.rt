@@ -3,7 +3,7 @@
 // has one for each strip.
 ghost use mathlib.Core.Path.{_≡_};
 ghost use mathlib.Core.Bool.{false};
-ghost use Prim.Native.Nat.{_*_, _≤_, _<_};
+ghost use Prim.Native.Nat.{_*_, _<_};
 ghost use lib.ListN.{length};
 ghost use Rattle.lists.specs.Put.{Wrote};
 ghost use Rattle.ksets.specs.Sets.{Rising};
@@ -14,24 +14,35 @@ ghost use Rattle.document.specs.Reading.{joinedPlace};
 ghost use Rattle.coefficients.specs.Weights.{denominatorsOf};
 ghost use Rattle.half_pairs.specs.HalfPairs.{positionTable, isNamed, isHalfPair, partnerAt, halfPairs};
 ghost use Rattle.half_pairs.specs.HalfPairs.{weightRow, nodeWeights, weightTable};
-ghost use Rattle.half_pairs.specs.HalfPairs.{coefficientIn, systemLine, systemSquare};
+ghost use Rattle.half_pairs.specs.HalfPairs.{coefficientIn, systemLine, systemSquare, HalfPairsOf};
 use document::Node;
 use document::Place;
 use document::Profile;
 use document::Row;
 use square::Line;
 
+// What the system of a reading is made of: where each node stands in the list of the named nodes, the numbers of the half
+// pairs and how many there are, and the weights at all nodes.
+pub struct HalfPairs {
+    pub positions: [u8; 24],
+    pub halves: [u8; 80],
+    pub count: usize,
+    pub table: [u8; 576],
+}
+
 // Where each node that a profile can have stands in the list; its length if it does not.
-pub fn positions(nodes: &[u8]) -> [u8; 24]
-    requires { ⌜ length (now nodes) ≤ 24 ⌝ }
+fn positions(p: Profile, nodes: &[u8]) -> [u8; 24]
+    requires { ⌜ Accepted p × Rising (p .n) (p .k) (now nodes) ⌝ }
     ensures { λ r. ⌜ r ≡ positionTable (now (nodes .entry)) ⌝ }
 {
-    let mut table = [0u8; 24];
-    let mut j: usize = 0;
-    while j < 24 {
-        let q = coefficients::position_of(nodes, j);
+    let k = p.k;
+    let absent = k as u8;
+    let mut table = [absent; 24];
+    let mut q: usize = 0;
+    while q < k {
+        let j = nodes[q] as usize;
         table[j] = q as u8;
-        j += 1;
+        q += 1;
     }
     table
 }
@@ -70,7 +81,7 @@ fn is_half_pair(p: Profile, nodes: &[u8], positions: &[u8], z: usize) -> bool
 }
 
 // Writes the numbers of the half pairs, and returns how many there are. `out` has room for all strips, at most 80.
-pub fn list_half_pairs(out: &mut [u8], p: Profile, nodes: &[u8], positions: &[u8]) -> usize
+fn list_half_pairs(out: &mut [u8], p: Profile, nodes: &[u8], positions: &[u8]) -> usize
     requires { ⌜ Accepted p × Rising (p .n) (p .k) (now nodes) × (length (now out) ≡ 80) ⌝ }
     requires { ⌜ now positions ≡ positionTable (now nodes) ⌝ }
     ensures { λ r. ⌜ Wrote (now (out .entry)) 0 (halfPairs p (now (nodes .entry))) r (now (out .exit)) ⌝ }
@@ -80,7 +91,7 @@ pub fn list_half_pairs(out: &mut [u8], p: Profile, nodes: &[u8], positions: &[u8
     let mut z: usize = 0;
     while z < count {
         let wanted = is_half_pair(p, nodes, positions, z);
-        next = fields::put_if(out, next, z, wanted);
+        next = lists::put_if(out, next, z, wanted);
         z += 1;
     }
     next
@@ -133,7 +144,7 @@ fn put_weights(out: &mut [u8], p: Profile, nodes: &[u8], positions: &[u8])
 }
 
 // The same, in a table that a call makes once.
-pub fn weight_table(p: Profile, nodes: &[u8], positions: &[u8]) -> [u8; 576]
+fn weight_table(p: Profile, nodes: &[u8], positions: &[u8]) -> [u8; 576]
     requires { ⌜ Accepted p × Rising (p .n) (p .k) (now nodes) × (now positions ≡ positionTable (now nodes)) ⌝ }
     ensures { λ r. ⌜ r ≡ weightTable p (now (nodes .entry)) ⌝ }
 {
@@ -181,7 +192,7 @@ fn system_line(p: Profile, nodes: &[u8], table: &[u8], halves: &[u8], e: usize) 
 }
 
 // The system: a line for each half pair. Lines past them hold zeros.
-pub fn system_square(p: Profile, nodes: &[u8], table: &[u8], halves: &[u8]) -> [Line; 80]
+fn system_square(p: Profile, nodes: &[u8], table: &[u8], halves: &[u8]) -> [Line; 80]
     requires { ⌜ Accepted p × Rising (p .n) (p .k) (now nodes) × (now table ≡ weightTable p (now nodes)) ⌝ }
     requires { ⌜ now halves ≡ halfPairs p (now nodes) ⌝ }
     ensures { λ r. ⌜ r ≡ systemSquare p (now (nodes .entry)) ⌝ }
@@ -194,4 +205,32 @@ pub fn system_square(p: Profile, nodes: &[u8], table: &[u8], halves: &[u8]) -> [
         e += 1;
     }
     s
+}
+
+// The half pairs of the named nodes and what belongs to them, once for a call. Past the half pairs `halves` holds zeros.
+pub fn of_nodes(p: Profile, nodes: &[u8]) -> HalfPairs
+    requires { ⌜ Accepted p × Rising (p .n) (p .k) (now nodes) ⌝ }
+    ensures { λ r. ⌜ HalfPairsOf p (now (nodes .entry)) r ⌝ }
+{
+    let positions = positions(p, nodes);
+    let table = weight_table(p, nodes, &positions);
+    let mut halves = [0u8; 80];
+    let count = list_half_pairs(&mut halves, p, nodes, &positions);
+    HalfPairs {
+        positions: positions,
+        halves: halves,
+        count: count,
+        table: table,
+    }
+}
+
+// The system, made of them.
+pub fn small_system(p: Profile, nodes: &[u8], h: HalfPairs) -> [Line; 80]
+    requires { ⌜ Accepted p × Rising (p .n) (p .k) (now nodes) × HalfPairsOf p (now nodes) h ⌝ }
+    ensures { λ r. ⌜ r ≡ systemSquare p (now (nodes .entry)) ⌝ }
+{
+    let count = h.count;
+    let table = h.table;
+    let halves = h.halves;
+    system_square(p, nodes, &table, &halves[..count])
 }

@@ -10,3 +10,4 @@ pub mod Some
 pub mod Once
 pub mod Same
 pub mod Parts
+pub mod Positions

@@ -1,9 +1,10 @@
--- The laws of `listed`: its length, its entries, equality entry by entry, a list in two parts, and its front.
+-- The laws of `listed`: its length, its entries, equality entry by entry, a list in two parts, its front, and what holds
+-- of all entries.
 use mathlib.Core.Path.{_≡_, refl, sym, ap, ap₂, _∙_}
-use mathlib.Core.List.{List, _∷_, _++_}
+use mathlib.Core.List.{List, [], _∷_, _++_}
 use Prim.Native.Nat.{ℕ, zero, suc, _+_, _≤_, _<_, suc-le-suc}
 use native.Mathlib.Nat.{le-of-suc-le-suc, not-suc-le-zero, zero-lt-suc, zero-add, suc-add}
-use lib.ListN.{length, getD, take}
+use lib.ListN.{length, getD, take, replicate}
 use lib.Seq.{ext-getD}
 use Rattle.lists.specs.Listed.{listed}
 
@@ -50,3 +51,19 @@ module _ {X : Type 0} where
   listed-getD d xs =
       ext-getD d (listed (length xs) (λ e. getD xs e d)) xs (listed-length (length xs) (λ e. getD xs e d))
       (λ e l. listed-at (length xs) (λ e. getD xs e d) e d (rw listed-length at l))
+
+-- ---- what holds of each entry, and of what is read past the end, holds wherever one looks
+module _ {X : Type 0} (R : X → Type 0) (d : X) (past : R d) where
+  pub getD-holds : (xs : List X) → ((i : ℕ) → i < length xs → R (getD xs i d)) → (i : ℕ) → R (getD xs i d)
+  getD-holds [] h i = past
+  getD-holds (x ∷ xs) h zero = h 0 (zero-lt-suc (length xs))
+  getD-holds (x ∷ xs) h (suc i) = getD-holds xs (λ e l. h (suc e) (suc-le-suc l)) i
+
+  pub listed-holds : (n : ℕ) (f : ℕ → X) → ((e : ℕ) → R (f e)) → (i : ℕ) → R (getD (listed n f) i d)
+  listed-holds n f h =
+      getD-holds (listed n f) (λ i l. let below : i < n = rw listed-length at l in rw (listed-at n f i d below) (h i))
+
+  pub replicate-holds : (n : ℕ) (v : X) → R v → (i : ℕ) → R (getD (replicate n v) i d)
+  replicate-holds zero v h i = past
+  replicate-holds (suc n) v h zero = h
+  replicate-holds (suc n) v h (suc i) = replicate-holds n v h i

@@ -1,3 +1,4 @@
 pub mod Listed
 pub mod Put
 pub mod Each
+pub mod Positions

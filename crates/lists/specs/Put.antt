@@ -1,8 +1,8 @@
 -- Lists written into a list that is lent, and parts of a list compared.
 --
--- slice x at m        : the m entries of x from `at` on
--- same xs ys          : xs and ys are equal
--- put d at vs         : d with vs written from `at` on
+-- slice x at m         : the m entries of x from `at` on
+-- same xs ys           : xs and ys are equal
+-- put d at vs          : d with vs written from `at` on
 -- Wrote d at vs next e : a function that was lent d and a position left e and the next position: it wrote vs
 use mathlib.Core.Path.{_≡_}
 use mathlib.Core.Bool.{Bool, true, false, _&&_}

@@ -55,7 +55,7 @@ fn list_step(out: &mut [u8], at: usize, p: Profile, f: Node, step: Step) -> usiz
     let mut j: usize = 0;
     while j < n {
         let wanted = in_step(step, p, f, j);
-        next = fields::put_if(out, next, j, wanted);
+        next = lists::put_if(out, next, j, wanted);
         j += 1;
     }
     next

@@ -7,7 +7,7 @@ use lib.ListN.{length}
 use Rattle.lists.proofs.Listed.{listed-length}
 use Rattle.strips.specs.Strips.{combinationOf, stripAt}
 use Rattle.document.specs.declared.Profile.{Profile}
-use Rattle.coefficients.specs.Weights.{positionIn}
+use Rattle.lists.specs.Positions.{positionIn}
 use Rattle.half_pairs.specs.HalfPairs.{isNamed, weightRow}
 use Rattle.reading.specs.Steps.{baseColumn}
 

@@ -45,7 +45,8 @@ use Rattle.document.proofs.Columns.{nodes-distinct}
 use Rattle.document.proofs.SquareSteps.{matrix}
 use Rattle.document.proofs.Reading.{read-data, read-columns}
 use Rattle.algebra.specs.Weight.{weight}
-use Rattle.coefficients.specs.Weights.{positionIn, points}
+use Rattle.coefficients.specs.Weights.{points}
+use Rattle.lists.specs.Positions.{positionIn}
 use Rattle.coefficients.proofs.Combination.{sum-bytes}
 use Rattle.coefficients.proofs.Lagrange.{weights-at}
 use Rattle.half_pairs.specs.HalfPairs.{
@@ -66,7 +67,6 @@ use Rattle.half_pairs.proofs.Symbols.{
   partnerSymbol,
   half-each,
   half-has,
-  not-true,
   inverse-clear,
   solved,
   symbol-is,
@@ -187,7 +187,7 @@ module _ (p : Profile) (acc : Accepted p) (nodes : List ℕ) (rises : Rising (p 
   r = knownPartnerStrips p nodes y
 
   other-node : (e : ℕ) → e < count → isNamed k nodes (partnerAt p nodes (o e) .node .0) ≡ false
-  other-node e h = not-true _ (half-each p nodes acc rises e h .0)
+  other-node e h = half-each p nodes acc rises e h .0
 
   partner-byte : (e b : ℕ) → e < count → b < S → getD r (e * S + b) 0 ≡ number (knownPartnerOf p nodes x b (o e))
   unfolding knownPartnerStrips knownPartnerStrip combinationOf knownPartner

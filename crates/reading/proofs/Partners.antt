@@ -14,11 +14,9 @@ use Rattle.square.specs.declared.Line.{Line}
 use Rattle.square.specs.Steps.{lineAt}
 use Rattle.document.specs.declared.Profile.{Profile}
 use Rattle.document.specs.Profile.{Accepted}
-use Rattle.document.specs.Places.{Within}
-use Rattle.document.proofs.Bounds.{room, partner-within}
-use Rattle.document.proofs.Reading.{joined-within}
-use Rattle.half_pairs.specs.HalfPairs.{partnerAt, halfPairs, halfPairAt}
-use Rattle.half_pairs.proofs.Symbols.{half-each}
+use Rattle.document.proofs.Bounds.{room}
+use Rattle.half_pairs.specs.HalfPairs.{halfPairAt}
+use Rattle.half_pairs.proofs.Symbols.{U, half-each}
 use Rattle.half_pairs.proofs.System.{few-halves}
 use Rattle.reading.specs.Steps.{knownPartnerStrip, partnerStrip, completedStrip, completed}
 
@@ -44,19 +42,13 @@ module _ (p : Profile) (nodes : List ℕ) (lines : List Line) (r y : List ℕ) w
 module _ (p : Profile) (acc : Accepted p) (nodes : List ℕ) (rises : Rising (p .n) (p .k) nodes) where
   open Profile p using (n, k, a as A, s as S)
 
-  abbrev U : ℕ
-  U = length (halfPairs p nodes)
-
   -- the strip of row i in column q
   pub strip-fits : (i q : ℕ) → i < A → q < k → i * S + q * (A * S) + S ≤ k * A * S
   strip-fits i q h l =
       omega (arith, room (q * A + i) (k * A) S (digits-lt l h), add-mul (q * A) i S, mul-assoc q A S)
 
-  pub joined-partner-within : (z : ℕ) → z < k * A → Within p (partnerAt p nodes z)
-  joined-partner-within z h = partner-within p acc _ (joined-within p acc nodes rises z h)
-
-  pub half-below : (e : ℕ) → e < U → halfPairAt p nodes e < k * A
+  pub half-below : (e : ℕ) → e < U p nodes → halfPairAt p nodes e < k * A
   half-below e h = half-each p nodes acc rises e h .1
 
-  pub partners-bound : U * S ≤ 40960
-  partners-bound = mul-le-mul {n₁ = U} {m₁ = S} {n₂ = 80} {m₂ = 512} (few-halves p nodes acc rises) (acc .short)
+  pub partners-bound : U p nodes * S ≤ 40960
+  partners-bound = mul-le-mul {n₁ = U p nodes} {m₁ = S} {n₂ = 80} {m₂ = 512} (few-halves p nodes acc rises) (acc .short)

@@ -2,9 +2,6 @@
 -- row i of the q-th named node. x are the joined columns, y strips of the named nodes, r right-hand sides of the system of
 -- the half pairs, a strip for each.
 --
--- multipleOf d strip                : d times each byte of a strip
--- uncoupledStrip f d own partner    : d times the sum of own and f times partner, byte by byte
--- joinedAt p nodes x b i j          : byte b of the strip that x has for row i of the named node j
 -- knownStrip p nodes x z            : what x gives of the base symbols of strip z: all of them where its partner is named,
 --                                     otherwise the stored ones
 -- knownStrips p nodes x             : the same of all strips
@@ -19,11 +16,9 @@
 -- readingAnswer p nodes x y         : what reading back in due form answers and leaves in y, the buffer lent for the data
 use mathlib.Core.Bool.{cond}
 use mathlib.Core.List.{List}
-use Prim.Native.Nat.{ℕ, zero, suc, _+_, _*_, _/_, _%_}
+use Prim.Native.Nat.{ℕ, zero, suc, _*_, _/_, _%_}
 use lib.ListN.{length, getD, take}
 use Rattle.lists.specs.Listed.{listed}
-use Rattle.gf256.specs.Field.{_⊕_, _⊗_}
-use Rattle.algebra.specs.Coupling.{Array}
 use Rattle.algebra.specs.HalfPairs.{known}
 use Rattle.strips.specs.Strips.{combinationOf, stripAt, addedScaled}
 use Rattle.square.specs.declared.Line.{Line}
@@ -35,26 +30,17 @@ use Rattle.document.specs.declared.Answer.the-variants.{Done, Refused}
 use Rattle.document.specs.Bytes.{bytes, byte, number}
 use Rattle.document.specs.Encoding.{factorAt}
 use Rattle.document.specs.Reading.{ambiguous, dataFrom}
-use Rattle.coefficients.specs.Weights.{positionIn}
-use Rattle.half_pairs.specs.HalfPairs.{named, isNamed, partnerAt, halfPairs, halfPairAt, weightRow}
-
-unfoldable pub multipleOf : ℕ → List ℕ → List ℕ
-multipleOf d strip = listed (length strip) (λ b. d ⊗ getD strip b 0)
-
-unfoldable pub uncoupledStrip : ℕ → ℕ → List ℕ → List ℕ → List ℕ
-uncoupledStrip f d own partner = listed (length own) (λ b. d ⊗ (getD own b 0 ⊕ (f ⊗ getD partner b 0)))
+use Rattle.lists.specs.Positions.{positionIn}
+use Rattle.half_pairs.specs.HalfPairs.{named, isNamed, partnerAt, halfPairs, halfPairAt, weightRow, joinedAt}
 
 module _ (p : Profile) (nodes : List ℕ) where
   open Profile p using (k, a as A, s as S)
-
-  abbrev pub joinedAt : List ℕ → ℕ → Array bytes
-  joinedAt x b i j = byte (getD x ((positionIn nodes j * A + i) * S + b) 0)
 
   unfoldable pub knownStrip : List ℕ → ℕ → List ℕ
   knownStrip x z =
       listed S
       (λ b. number
-      (known bytes A k byte (factorAt p) (named nodes) (positionIn nodes) (joinedAt x b) (z % A) (z / A)))
+      (known bytes A k byte (factorAt p) (named nodes) (positionIn nodes) (joinedAt p nodes x b) (z % A) (z / A)))
 
   unfoldable pub knownStrips : List ℕ → List ℕ
   knownStrips x = listed (k * A * S) (λ e. getD (knownStrip x (e / S)) (e % S) 0)

@@ -1,13 +1,13 @@
 // Reading back by pairs. Where both strips of a pair are read they give both base strips; the partners of the half pairs
 // solve a small system. From the base strips of the named nodes follow those of the data nodes, which are the data.
 ghost use mathlib.Core.Path.{_≡_};
-ghost use Prim.Native.Nat.{_*_, _≤_, _<_};
+ghost use Prim.Native.Nat.{_*_, _<_};
 ghost use lib.ListN.{length};
 ghost use Rattle.ksets.specs.Sets.{Rising};
 ghost use Rattle.document.specs.Profile.{Accepted};
 ghost use Rattle.document.specs.Reading.{listAccepted, readWith, readOf};
 ghost use Rattle.half_pairs.specs.HalfPairs.{positionTable, halfPairs, weightTable};
-ghost use Rattle.reading.specs.Steps.{multipleOf, uncoupledStrip, knownStrip, knownStrips};
+ghost use Rattle.reading.specs.Steps.{knownStrip, knownStrips};
 ghost use Rattle.reading.specs.Steps.{knownPartnerStrip, knownPartnerStrips};
 ghost use Rattle.reading.specs.Steps.{completedStrip, completed, baseColumn, baseColumns, dataBy, readingAnswer};
 use document::Answer;
@@ -41,35 +41,6 @@ fn accepts_list(nodes: &[u8], n: usize, k: usize) -> bool
     true
 }
 
-// d times a strip. Strips on the diagonal of coupling come with 1, which needs no product.
-fn put_multiple(out: &mut [u8], strip: &[u8], d: u8)
-    requires { ⌜ length (now out) ≡ length (now strip) ⌝ }
-    ensures { λ _. ⌜ now (out .exit) ≡ multipleOf d (now (strip .entry)) ⌝ }
-{
-    if d == 1 {
-        strips::copy(out, strip, 0);
-        return;
-    }
-    strips::fill(out, 0);
-    strips::add_scaled(out, 0, strip, d);
-}
-
-// A base strip from the two stored strips of its pair: the sum of its own and the partner's times f, divided by the
-// determinant of the pair. d is the determinant's inverse.
-fn uncouple(out: &mut [u8], own: &[u8], partner: &[u8], f: u8, d: u8)
-    requires { ⌜ (length (now out) ≤ 512) × (length (now own) ≡ length (now out))
-        × (length (now partner) ≡ length (now out)) ⌝ }
-    ensures { λ _. ⌜ now (out .exit) ≡ uncoupledStrip f d (now (own .entry)) (now (partner .entry)) ⌝ }
-{
-    let s = out.len();
-    let mut sum = [0u8; Profile::MAX_STRIP];
-    let mut other = [0u8; Profile::MAX_STRIP];
-    strips::copy(&mut sum[..s], own, 0);
-    strips::copy(&mut other[..s], partner, 0);
-    strips::add_multiple(&mut sum[..s], 0, &mut other[..s], f);
-    put_multiple(out, &sum[..s], d);
-}
-
 // What the columns give of the base strip z: all of it where its partner is named, otherwise the stored strip.
 fn known_strip(out: &mut [u8], p: Profile, nodes: &[u8], positions: &[u8], columns: &[u8], z: usize)
     requires { ⌜ Accepted p × Rising (p .n) (p .k) (now nodes) × (z < p .k * p .a) ⌝ }
@@ -89,12 +60,11 @@ fn known_strip(out: &mut [u8], p: Profile, nodes: &[u8], positions: &[u8], colum
     }
     let row = q.row;
     let f = p.factor(row, r.row.0);
-    let g = p.factor(r.row, row.0);
-    let d = gf256::inverse(1 ^ gf256::mul(f, g));
+    let d = gf256::inverse(coupling::determinant(p, row, r.row.0));
     let other = (at * p.a + r.row.0) * s;
     let own_end = own + s;
     let other_end = other + s;
-    uncouple(
+    coupling::uncouple(
         out,
         &columns[own..own_end],
         &columns[other..other_end],
@@ -307,16 +277,17 @@ fn read_from(p: Profile, nodes: &[u8], columns: &[u8], output: &mut [u8]) -> Ans
     ensures { λ r. ⌜ (r, now (output .exit))
         ≡ readingAnswer p (now (nodes .entry)) (now (columns .entry)) (now (output .entry)) ⌝ }
 {
-    let positions = half_pairs::positions(nodes);
-    let mut halves = [0u8; 80];
-    let count = half_pairs::list_half_pairs(&mut halves, p, nodes, &positions);
-    let table = half_pairs::weight_table(p, nodes, &positions);
-    let s = half_pairs::system_square(p, nodes, &table, &halves[..count]);
+    let h = half_pairs::of_nodes(p, nodes);
+    let s = half_pairs::small_system(p, nodes, h);
+    let count = h.count;
     let e = square::invert(s, count, count);
     let verdict = e.verdict;
     match verdict {
         Verdict::Singular(_) => Answer::Refused(Refusal::Ambiguous),
         Verdict::Regular => {
+            let positions = h.positions;
+            let table = h.table;
+            let halves = h.halves;
             let lines = e.lines;
             put_data(
                 output,

@@ -14,11 +14,13 @@ use Rattle.document.specs.declared.Answer.{Answer}
 use Rattle.document.specs.declared.Answer.the-variants.{Done, Refused}
 use Rattle.document.specs.Refusals.{tried}
 use Rattle.document.specs.Plan.{planned}
-use Rattle.document.specs.Bundle.{stripFieldLength, bundleLength, bundleTests}
+use Rattle.document.specs.Message.{stripFieldLength, messageLength, messageTests}
+use Rattle.document.specs.Bundle.{lostContent, bundleLength, bundleTests}
 use Rattle.document.specs.Rebuild.{rebuiltOf, firstStrip, rebuildTests, rebuildWith}
 use Rattle.document.proofs.Bounds.{room}
 use Rattle.document.proofs.Tried.{tried-refused, tried-passed, first-failed}
-use Rattle.document.proofs.Bundle.{formed-length}
+use Rattle.document.proofs.Message.{formed-length}
+use Rattle.document.proofs.Bundle.{lost-length}
 use Rattle.rebuild.specs.Folded.{StripsFit}
 
 module _ (p : Profile) (f : Node) (r : Recording) (b y : List ℕ) where
@@ -36,7 +38,7 @@ module _ (p : Profile) (f : Node) (r : Recording) (b y : List ℕ) where
         (checked : answer ≡ tried (bundleTests p f r b) Refused (Done 0)) where
       past : rebuildWith p f r b y
           ≡ tried (bundleTests p f r b) (λ refusal. (Refused refusal, y))
-          (Done 0, rebuiltOf p f b firstStrip (stripFieldLength (p .s)))
+          (Done 0, rebuiltOf p f b (firstStrip p) (stripFieldLength (p .s)))
       unfolding rebuildWith rebuildTests tried
       past = simp (lt-ltb _ _ known, eq-eqb _ _ size)
 
@@ -46,18 +48,20 @@ module _ (p : Profile) (f : Node) (r : Recording) (b y : List ℕ) where
           sym (past ∙ tried-refused _ 0 _ (bundleTests p f r b) refusal (sym checked ∙ e))
 
       pub bundle-done : {v : ℕ} → answer ≡ Done v → {z : List ℕ}
-          → z ≡ rebuiltOf p f b firstStrip (stripFieldLength (p .s)) → (Done 0, z) ≡ rebuildWith p f r b y
+          → z ≡ rebuiltOf p f b (firstStrip p) (stripFieldLength (p .s)) → (Done 0, z) ≡ rebuildWith p f r b y
       bundle-done {v} e same =
           ap (λ (z : List ℕ). (Done 0, z)) same
           ∙ sym (past ∙ tried-passed _ 0 _ (bundleTests p f r b) v (sym checked ∙ e))
 
 -- a bundle that passes has the strips of the plan
 pub strips-fit : (p : Profile) (f : Node) (r : Recording) (b : List ℕ) {v : ℕ}
-    → tried (bundleTests p f r b) Refused (Done 0) ≡ Done v → StripsFit p f b firstStrip (stripFieldLength (p .s))
-unfolding bundleTests
+    → tried (bundleTests p f r b) Refused (Done 0) ≡ Done v → StripsFit p f b (firstStrip p) (stripFieldLength (p .s))
+unfolding bundleTests messageTests
 strips-fit p f r b {v} e = record {
   reach = λ i l. omega (arith, room i (length (planned p f)) (stripFieldLength (p .s)) l, whole);
 }
   where
     whole : length b ≡ bundleLength p f
-    whole = formed-length p f b (not-false _ (first-failed _ _ 0 v e))
+    whole =
+        formed-length p (length (lostContent f r)) (length (planned p f)) b (not-false _ (first-failed _ _ 0 v e))
+        ∙ ap (λ (m : ℕ). messageLength p m (length (planned p f))) (lost-length f r)

@@ -6,17 +6,16 @@ use lib.ListN.{length, getD}
 use Rattle.lists.specs.Listed.{listed}
 use Rattle.lists.proofs.Listed.{listed-length, listed-ext}
 use Rattle.gf256.specs.Field.{_⊗_, quotientsOf}
-use Rattle.gf256.proofs.Ring.{zero-add}
 use Rattle.algebra.specs.Weight.{weight}
 use Rattle.algebra.specs.Rows.{coefficient}
-use Rattle.strips.specs.Strips.{addedScaled}
-use Rattle.strips.proofs.Added.{added-listed}
 use Rattle.coefficients.specs.Weights.{points, weightsOf}
 use Rattle.coefficients.proofs.Lists.{quotients-listed}
 use Rattle.document.specs.declared.Profile.{Profile}
 use Rattle.document.specs.declared.Node.{Node}
 use Rattle.document.specs.Bytes.{bytes, Byte, byte, number}
 use Rattle.document.proofs.Bytes.{number-mul, number-inv}
+use Rattle.coupling.specs.Pairs.{multipleOf}
+use Rattle.coupling.proofs.Multiples.{multiple-listed}
 use Rattle.rebuild.specs.Rows.{memberAt, determinantAt, determinantsOf, scaleAt, coefficientsOf}
 
 module _ (p : Profile) (f : Node) (nodes : List ℕ) (i : ℕ) where
@@ -44,13 +43,12 @@ module _ (p : Profile) (f : Node) (nodes : List ℕ) (i : ℕ) where
   unfolding coefficientsOf
   coefficients-length = listed-length k _
 
-  pub coefficients-scaled : {c : ℕ} {w x : List ℕ} → length nodes ≡ k → c ≡ number (scaleAt p f i)
-      → w ≡ quotientsOf (weightsOf nodes (memberAt p f i)) (determinantsOf p f nodes) → x ≡ listed k (λ b. 0)
-      → addedScaled c 0 w x ≡ coefficientsOf p f nodes i
+  pub coefficients-scaled : {c : ℕ} {w : List ℕ} → length nodes ≡ k → c ≡ number (scaleAt p f i)
+      → w ≡ quotientsOf (weightsOf nodes (memberAt p f i)) (determinantsOf p f nodes)
+      → multipleOf c w ≡ coefficientsOf p f nodes i
   unfolding coefficientsOf coefficient
-  coefficients-scaled {c} {w} {x} same scaled divided zeros =
-      ap₂ (λ (d : ℕ) (l : List ℕ). addedScaled d 0 l x) scaled (divided ∙ shares)
-      ∙ ap₂ (λ (m : ℕ) (l : List ℕ). addedScaled (number (scaleAt p f i)) 0 (listed m (λ q. number (share m q))) l)
-      same zeros
-      ∙ added-listed (number (scaleAt p f i)) k (λ q. number (share k q)) (λ b. 0)
-      ∙ listed-ext k _ _ (λ q h. zero-add _ ∙ sym (number-mul (scaleAt p f i) (share k q)))
+  coefficients-scaled same scaled divided =
+      ap₂ multipleOf scaled
+      (divided ∙ shares ∙ ap (λ (m : ℕ). listed m (λ q. number (share m q))) same)
+      ∙ multiple-listed (number (scaleAt p f i)) k (λ q. number (share k q))
+      ∙ listed-ext k _ _ (λ q h. sym (number-mul (scaleAt p f i) (share k q)))

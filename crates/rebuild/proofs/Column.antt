@@ -26,8 +26,8 @@ use Rattle.document.proofs.Bytes.{byte-number}
 use Rattle.document.proofs.Decides.{decides-false}
 use Rattle.document.proofs.Walks.{Sound, walk-sound}
 use Rattle.document.proofs.Chosen.{chosen-length, choice, outside, own-found}
-use Rattle.coefficients.specs.Weights.{positionIn}
-use Rattle.coefficients.proofs.Positions.{position-within, position-back}
+use Rattle.lists.specs.Positions.{positionIn}
+use Rattle.lists.proofs.Positions.{position-within, position-back}
 use Rattle.rebuild.specs.Folded.{foldedAt, foldedOf}
 use Rattle.rebuild.specs.Rows.{memberAt, rowFrom}
 use Rattle.rebuild.specs.Column.{rowOf, rowsOf, NodesOf}

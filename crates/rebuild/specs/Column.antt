@@ -13,7 +13,8 @@ use lib.ListN.{length, getD}
 use Rattle.lists.specs.Listed.{listed}
 use Rattle.document.specs.declared.Profile.{Profile}
 use Rattle.document.specs.declared.Node.{Node}
-use Rattle.coefficients.specs.Weights.{Different, Outside, positionIn}
+use Rattle.coefficients.specs.Weights.{Different, Outside}
+use Rattle.lists.specs.Positions.{positionIn}
 use Rattle.rebuild.specs.Rows.{memberAt, coefficientsOf, rowFrom}
 
 module _ (p : Profile) (f : Node) (own chosen : List ℕ) where

@@ -5,7 +5,6 @@ ghost use mathlib.Core.Logic.{_≢_};
 ghost use mathlib.Core.List.{[], _∷_};
 ghost use Prim.Native.Nat.{_+_, _*_, _<_, _-_, _%_, _≤_};
 ghost use lib.ListN.{length};
-ghost use Rattle.strips.specs.Strips.{addedScaled};
 ghost use Rattle.document.specs.Bytes.{number};
 ghost use Rattle.document.specs.Profile.{Accepted};
 ghost use Rattle.document.specs.Plan.{walkOf, chosenOver, nodesOver, planned};
@@ -14,7 +13,7 @@ ghost use Rattle.plan.specs.Steps.{placesAt};
 ghost use Rattle.rebuild.specs.Folded.{foldedOf, StripsFit, NodeAt};
 ghost use Rattle.gf256.specs.Field.{quotientsOf, NoZero};
 ghost use Rattle.coefficients.specs.Weights.{Different, Outside, denominatorsOf, weightsOf};
-ghost use Rattle.rebuild.specs.Rows.{memberAt, determinantAt, determinantsOf, ownScaleAt, scaleAt};
+ghost use Rattle.rebuild.specs.Rows.{memberAt, determinantsOf, ownScaleAt, scaleAt};
 ghost use Rattle.rebuild.specs.Rows.{coefficientsOf, rowFrom};
 ghost use Rattle.rebuild.specs.Column.{rowOf, rowsOf, NodesOf};
 use document::Answer;
@@ -26,26 +25,6 @@ use document::Recording;
 use document::Refusal;
 use document::Row;
 use plan::Step;
-
-// Adds c times a strip. Half of the factors are 1, which needs no product. For another small one the strip is copied,
-// since `add_multiple` uses its strip up; from 16 on the copy can cost more than it saves.
-fn add_times(x: &mut [u8], strip: &[u8], c: u8)
-    requires { ⌜ (length (now strip) ≡ length (now x)) × (length (now x) ≤ 512) ⌝ }
-    ensures { λ _. ⌜ now (x .exit) ≡ addedScaled c 0 (now (strip .entry)) (now (x .entry)) ⌝ }
-{
-    if c == 1 {
-        strips::add(x, 0, strip);
-        return;
-    }
-    if c >= 16 {
-        strips::add_scaled(x, 0, strip, c);
-        return;
-    }
-    let s = strip.len();
-    let mut u = [0u8; Profile::MAX_STRIP];
-    strips::copy(&mut u[..s], strip, 0);
-    strips::add_multiple(x, 0, &mut u[..s], c);
-}
 
 // Folds the strips that are read at node j into one; they stand in the plan from place m on. Returns the place after.
 fn fold_strip(
@@ -70,7 +49,7 @@ fn fold_strip(
         let c = f.0 % p.a;
         let l = j % p.a;
         let t = p.factor(Row(c), l);
-        add_times(out, &src[from..end], t);
+        coupling::add_times(out, &src[from..end], t);
         return m + 2;
     }
     m + 1
@@ -111,29 +90,15 @@ fn fold_strips(
     }
 }
 
-// The determinant of f's row at local column l and its partner: one of the two factors is 1, or both are 0.
-fn determinant_at(p: Profile, f: Node, l: usize) -> u8
-    requires { ⌜ Accepted p ⌝ }
-    ensures { λ r. ⌜ r ≡ number (determinantAt p f l) ⌝ }
-{
-    let c = f.0 % p.a;
-    if l < c {
-        return 1 ^ p.constant(Row(c), l);
-    }
-    if c < l {
-        return 1 ^ p.constant(Row(l), c);
-    }
-    1
-}
-
 // The determinants at the chosen nodes. They do not depend on the row wanted: computed once, they serve every row.
 fn pair_determinants(p: Profile, f: Node, nodes: &[u8], out: &mut [u8])
     requires { ⌜ Accepted p × (length (now out) ≡ length (now nodes)) ⌝ }
     ensures { λ _. ⌜ now (out .exit) ≡ determinantsOf p f (now (nodes .entry)) ⌝ }
 {
+    let c = f.0 % p.a;
     let mut q = 0;
     while q < nodes.len() {
-        let d = determinant_at(p, f, nodes[q] as usize % p.a);
+        let d = coupling::determinant(p, Row(c), nodes[q] as usize % p.a);
         out[q] = d;
         q += 1;
     }
@@ -141,7 +106,7 @@ fn pair_determinants(p: Profile, f: Node, nodes: &[u8], out: &mut [u8])
 
 // By what row c of node i of f's group is multiplied, where c is f's local column and i is not c.
 fn own_scale(p: Profile, f: Node, i: usize) -> u8
-    requires { ⌜ Accepted p ⌝ }
+    requires { ⌜ Accepted p × (i < p .a) × (i ≢ f .0 % p .a) ⌝ }
     ensures { λ r. ⌜ r ≡ number (ownScaleAt p f i) ⌝ }
 {
     let c = f.0 % p.a;
@@ -150,7 +115,7 @@ fn own_scale(p: Profile, f: Node, i: usize) -> u8
 
 // By what row c is multiplied for row i of the lost column.
 fn scale(p: Profile, f: Node, i: usize) -> u8
-    requires { ⌜ Accepted p ⌝ }
+    requires { ⌜ Accepted p × (i < p .a) ⌝ }
     ensures { λ r. ⌜ r ≡ number (scaleAt p f i) ⌝ }
 {
     let c = f.0 % p.a;
@@ -192,8 +157,7 @@ fn row_coefficients(
     let mut w = [0u8; Profile::MAX_NODES];
     divided_weights(nodes, denominators, at as u8, determinants, &mut w[..k]);
     let c = scale(p, f, i);
-    strips::fill(out, 0);
-    strips::add_scaled(out, 0, &w[..k], c);
+    coupling::put_multiple(out, &w[..k], c);
 }
 
 // Row i of the lost column: the sum of the folded strips by the row's coefficients, and the group's own strip `own`.
@@ -209,7 +173,7 @@ fn sum_row(
 )
     requires { ⌜ Accepted p × (length (now dst) ≡ p .s) × (length (now coefficients) ≡ p .k) ⌝ }
     requires { ⌜ (p .a - 1) * p .s + p .k * p .s ≤ length (now folded) ⌝ }
-    requires { ⌜ (i ≢ f .0 % p .a → own < p .a - 1) ⌝ }
+    requires { ⌜ (i < p .a) × (i ≢ f .0 % p .a → own < p .a - 1) ⌝ }
     ensures { λ _. ⌜ now (dst .exit) ≡ rowFrom p f i own (now (coefficients .entry)) (now (folded .entry)) ⌝ }
 {
     let s = p.s;
@@ -218,7 +182,7 @@ fn sum_row(
         let from = own * s;
         let end = from + s;
         let c = own_scale(p, f, i);
-        add_times(dst, &folded[from..end], c);
+        coupling::add_times(dst, &folded[from..end], c);
     }
 }
 
@@ -251,7 +215,7 @@ fn put_row(
         i,
         &mut coefficients[..k],
     );
-    let at = coefficients::position_of(own, f.0 / p.a * p.a + i);
+    let at = lists::position_of(own, f.0 / p.a * p.a + i);
     sum_row(dst, folded, p, f, i, &coefficients[..k], at);
 }
 
@@ -343,8 +307,9 @@ fn rebuild_with(p: Profile, f: Node, r: Recording, bundle: &[u8], column: &mut [
     match answer {
         Answer::Refused(refusal) => Answer::Refused(refusal),
         Answer::Done(_) => {
-            let stride = bundle::strip_stride(p);
-            rebuild_column(column, bundle, bundle::FIRST_STRIP, stride, p, f);
+            let first = bundle::first_strip(p);
+            let stride = message::strip_stride(p);
+            rebuild_column(column, bundle, first, stride, p, f);
             Answer::Done(0)
         }
     }

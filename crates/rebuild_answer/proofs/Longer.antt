@@ -4,7 +4,6 @@ use mathlib.Core.Path.{_≡_, refl, sym, _∙_}
 use mathlib.Core.Bool.{Bool, true, false, not}
 use mathlib.Core.List.{List, _∷_}
 use Prim.Native.Nat.{ℕ, _*_, _≤_, _<_}
-use native.Mathlib.Nat.{mul-le-mul}
 use native.Mathlib.Omega.{arith}
 use lib.Dec.{ltb, lit<}
 use lib.ListN.{length, take, drop, replicate, length-drop}
@@ -14,11 +13,12 @@ use Rattle.document.specs.declared.Numbers.{Numbers}
 use Rattle.document.specs.declared.Profile.{Profile}
 use Rattle.document.specs.declared.Node.{Node}
 use Rattle.document.specs.declared.Recording.{Recording}
-use Rattle.document.specs.declared.Refusal.the-variants.{OutOfRange, BufferLength, BundleForm}
+use Rattle.document.specs.declared.Refusal.the-variants.{OutOfRange, BufferLength, Form}
 use Rattle.document.specs.Refusals.{Test, tried}
-use Rattle.document.specs.Profile.{maxStrip, Accepted, profileOf}
-use Rattle.document.specs.Plan.{planned, maxPlaces}
-use Rattle.document.specs.Bundle.{stripFieldLength, bundleLength, longestBundle, formed, bundleTests}
+use Rattle.document.specs.Profile.{Accepted, profileOf}
+use Rattle.document.specs.Plan.{planned}
+use Rattle.document.specs.Message.{messageLength, formed, messageTests}
+use Rattle.document.specs.Bundle.{lostContent, longestBundle, bundleTests}
 use Rattle.document.specs.Rebuild.{rebuildTests, rebuildOf}
 use Rattle.document.specs.Program.{
   byteIn,
@@ -31,29 +31,27 @@ use Rattle.document.specs.Program.{
   programOf,
 }
 use Rattle.document.proofs.Accepts.{on-accepted-same}
-use Rattle.document.proofs.Price.{few-places}
+use Rattle.document.proofs.Bundle.{lost-length, bundle-bound}
 use Rattle.document.proofs.Program.{told, output-is}
 use Rattle.rebuild_answer.specs.Room.{longestInput}
 
--- a bundle longer than that of the most places with the longest strips is refused at the latest for its length
-not-formed : (p : Profile) → Accepted p → (f : Node) → f .0 < p .n → (b : List ℕ)
-    → longestBundle < length b → formed p f b ≡ false
+-- a bundle longer than any that is wanted is refused at the latest for its length
+not-formed : (p : Profile) → Accepted p → (f : Node) → f .0 < p .n → (r : Recording) (b : List ℕ)
+    → longestBundle < length b → formed p (length (lostContent f r)) (length (planned p f)) b ≡ false
 unfolding formed
-not-formed p acc f h b long =
-    let bound : length (planned p f) * stripFieldLength (p .s) ≤ maxPlaces * stripFieldLength maxStrip =
-    mul-le-mul {n₁ = length (planned p f)} {m₁ = stripFieldLength (p .s)} {n₂ = maxPlaces}
-    {m₂ = stripFieldLength maxStrip} (few-places p acc f h) (omega (arith, acc .short)) in
-    rw (ne-eqb (length b) (bundleLength p f) (λ e. omega arith)) refl
+not-formed p acc f h r b long =
+    rw (ne-eqb (length b) (messageLength p (length (lostContent f r)) (length (planned p f)))
+    (λ e. omega (arith, bundle-bound p acc f h, lost-length f r))) refl
 
 -- the tests of the lost node, the column and the bundle's form, where form is what fails at the latest
 form-refused : (node lent form₁ form₂ : Bool) (ts us : List Test) (x y : List ℕ)
     → (node ≡ true → (form₁ ≡ false) × (form₂ ≡ false))
     → tried
     (record { refusal = OutOfRange; holds = not node } ∷ record { refusal = BufferLength; holds = lent }
-    ∷ record { refusal = BundleForm; holds = not form₁ } ∷ ts) lineOf x
+    ∷ record { refusal = Form; holds = not form₁ } ∷ ts) lineOf x
     ≡ tried
     (record { refusal = OutOfRange; holds = not node } ∷ record { refusal = BufferLength; holds = lent }
-    ∷ record { refusal = BundleForm; holds = not form₂ } ∷ us) lineOf y
+    ∷ record { refusal = Form; holds = not form₂ } ∷ us) lineOf y
 unfolding tried
 form-refused false lent form₁ form₂ ts us x y h = refl
 form-refused true true form₁ form₂ ts us x y h = refl
@@ -62,14 +60,14 @@ form-refused true false form₁ form₂ ts us x y h = simp (h refl .0, h refl .1
 too-long : (p : Numbers) (f : ℕ) (r : Recording) (b c y : List ℕ)
     → longestBundle < length b → longestBundle < length c
     → outputOf (rebuildOf p f r b y) ≡ outputOf (rebuildOf p f r c y)
-unfolding rebuildTests bundleTests
+unfolding rebuildTests bundleTests messageTests
 too-long p f r b c y lb lc =
     output-is p f r b y
     ∙ on-accepted-same p lineOf (told p f r b y) (told p f r c y)
     (λ acc. form-refused (ltb f (p .n)) _ _ _ _ _ _ _
     (λ h. (
-      not-formed (profileOf p) acc (record { 0 = f }) (ltb-true f (p .n) h) b lb,
-      not-formed (profileOf p) acc (record { 0 = f }) (ltb-true f (p .n) h) c lc,
+      not-formed (profileOf p) acc (record { 0 = f }) (ltb-true f (p .n) h) r b lb,
+      not-formed (profileOf p) acc (record { 0 = f }) (ltb-true f (p .n) h) r c lc,
     )))
     ∙ sym (output-is p f r c y)
 

@@ -12,18 +12,6 @@ use borrow.Author.Tests.{lt-ltb, le-ltb}
 use Rattle.lists.specs.Put.{put, Wrote}
 use Rattle.lists.proofs.Put.{wrote-one, wrote-then, wrote-same}
 use Rattle.document.specs.declared.Refusal.{Refusal}
-use Rattle.document.specs.declared.Refusal.the-variants.{
-  Shape,
-  Constant,
-  StripLength,
-  OutOfRange,
-  BufferLength,
-  BundleForm,
-  BundleHead,
-  Misplaced,
-  Stale,
-  Ambiguous,
-}
 use Rattle.document.specs.Refusals.{numberOf, indexOf}
 use Rattle.document.specs.Program.{decimal, lineOf}
 
@@ -54,19 +42,6 @@ decimal-length v = go (ltb v 10)
 pub number-ends : {d e : List ℕ} {at n : ℕ} (text : List ℕ) (v : ℕ) → Wrote d at (text ++ decimal v) n e
     → n ≤ at + length text + 2
 number-ends text v w = omega (arith, w .ends, length-append text (decimal v), decimal-length v)
-
-pub number-bound : (r : Refusal) → numberOf r ≤ 10
-unfolding numberOf
-number-bound Shape = omega arith
-number-bound Constant = omega arith
-number-bound StripLength = omega arith
-number-bound OutOfRange = omega arith
-number-bound BufferLength = omega arith
-number-bound BundleForm = omega arith
-number-bound BundleHead = omega arith
-number-bound (Misplaced i) = omega arith
-number-bound (Stale i) = omega arith
-number-bound Ambiguous = omega arith
 
 -- "refused " and " at "
 abbrev pub refusedText : List ℕ

@@ -104,7 +104,7 @@ fn put_number(out: &mut [u8], at: usize, text: &[u8], v: usize) -> usize
     requires { ⌜ (at + length (now text) + 2 ≤ length (now out)) × (v < 100) ⌝ }
     ensures { λ r. ⌜ Wrote (now (out .entry)) at (now (text .entry) ++ decimal v) r (now (out .exit)) ⌝ }
 {
-    let next = fields::put_bytes(out, at, text);
+    let next = lists::put_bytes(out, at, text);
     put_decimal(out, next, v)
 }
 
@@ -115,7 +115,7 @@ fn put_line(out: &mut [u8], r: Refusal) -> usize
 {
     let number = put_number(out, 0, b"refused ", r.number() as usize);
     let index = put_number(out, number, b" at ", r.index());
-    fields::put_bytes(out, index, b"\n")
+    lists::put_bytes(out, index, b"\n")
 }
 
 // Rebuilds from the bundle that follows the head.

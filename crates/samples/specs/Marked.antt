@@ -34,20 +34,20 @@ use Rattle.document.specs.Refusals.{tried, numberOf, indexOf, answerNumber, ans
 use Rattle.algebra.specs.Coupling.{base, factor}
 use Rattle.algebra.specs.Rebuild.{rowAt, otherAt, rebuiltAt}
 use Rattle.document.specs.Places.{samePlace}
-use Rattle.document.specs.Bundle.{
+use Rattle.document.specs.Message.{
   recordingBytes,
   profileContent,
-  lostContent,
-  stripFieldStart,
   placeIn,
   recordingIn,
-  openedAt,
-  formed,
-  headed,
+  opened,
   placed,
   fresh,
-  bundleTests,
+  stripFieldStart,
+  formed,
+  headed,
+  messageTests,
 }
+use Rattle.document.specs.Bundle.{lostContent, bundleTests}
 use Rattle.document.specs.Rebuild.{positionOf, givenAt, rebuiltOver, rebuiltOf, rebuildTests, rebuildWith, rebuildOf}
 use Rattle.document.specs.Profile.{shapeAccepted, constantAccepted, stripAccepted, profileTests, onAccepted}
 use Rattle.document.specs.Bytes.{bytes, byte, number}
@@ -98,7 +98,7 @@ use Rattle.document.specs.Survey.{
   surveyOf,
   surveyAnswer,
   outcomeNumber,
-  positionIn,
+  failingPosition,
   lookedIn,
 }
 
@@ -144,7 +144,7 @@ rebuilt f fields = outcome (rebuildOf (profile 2) f (record { scenario = 7 }) (b
 abbrev pub surveyed : ℕ → ℕ → ℕ → List ℕ
 surveyed t start B =
     let o : Surveyed × List ℕ = surveyOf (profile t) start B (lent 2) in
-    answerNumber (surveyAnswer (o .0)) ∷ outcomeNumber (o .0) ∷ positionIn (o .0) ∷ lookedIn (o .0) ∷ o .1
+    answerNumber (surveyAnswer (o .0)) ∷ outcomeNumber (o .0) ∷ failingPosition (o .0) ∷ lookedIn (o .0) ∷ o .1
 
 -- M1 to M12, in document 01's order.
 unfoldable pub marked : List Case
@@ -192,10 +192,10 @@ pub shown : map (λ c. c .gives) marked ≡ map (λ c. c .says) marked
 unfolding marked lent encodeOf encodeWith encodeTests onAccepted profileTests shapeAccepted constantAccepted stripAccepted tried
     answerNumber answerValue encoded laidOut coupledAt constantOf baseAt byteAt start listed sum weight byte
     number bytes _⊕_ _⊗_ double bitProduct squares inverse ℕ-discrete decLt planOf planWith planTests planned planOver
-    pairsAt planBytes isOwn isDiagonal isOffDiagonal rising rebuildOf rebuildWith rebuildTests bundleTests openedAt formed headed
+    pairsAt planBytes isOwn isDiagonal isOffDiagonal rising rebuildOf rebuildWith rebuildTests bundleTests messageTests opened formed headed
     placed fresh placeIn recordingIn stripFieldStart plannedAt slice same all opening twoBytes fourBytes
     profileContent lostContent recordingBytes rebuiltOf rebuiltOver givenAt positionOf samePlace columnOf
     rebuiltAt rowAt otherAt base factor readOf readWith readTests listAccepted numberOf ambiguous indexOf eliminationOf squareOf
     lineOf coefficientAt endFrom pivotIn lifted stepped filled multiplierAt addedScaled patched unitSquare unitLine
-    surveyOf surveyWith surveyTests resultOf foundFrom failsAt firstIn sets setAt surveyAnswer outcomeNumber positionIn lookedIn
+    surveyOf surveyWith surveyTests resultOf foundFrom failsAt firstIn sets setAt surveyAnswer outcomeNumber failingPosition lookedIn
 shown = refl

@@ -3,4 +3,3 @@ pub mod Gathered
 pub mod Passes
 pub mod Strip
 pub mod Added
-pub mod Coupled

@@ -9,7 +9,6 @@
 -- addedScaled c at src x                 : x with c times the bytes of src added from `at` on
 -- addedStrip at src x                    : x with the bytes of src added from `at` on
 -- doubledStrip x                         : twice each byte of x
--- coupledStrips t upper lower s x        : x with its strips at `upper` and `lower`, of s bytes each, coupled by t
 use mathlib.Core.List.{List, [], _∷_}
 use Prim.Native.Nat.{ℕ, _+_, _*_, _≤_, _<_}
 use lib.ListN.{length, getD}
@@ -46,10 +45,3 @@ addedStrip at src x = addedBy (λ v. v) at src x
 
 unfoldable pub doubledStrip : List ℕ → List ℕ
 doubledStrip x = listed (length x) (λ b. double (getD x b 0))
-
--- 'Coupling', of one pair: in the upper strip the partner in the lower one is added to each byte, in the lower strip t
--- times the partner in the upper one; all other bytes stay.
-unfoldable pub coupledStrips : ℕ → ℕ → ℕ → ℕ → List ℕ → List ℕ
-coupledStrips t upper lower s x =
-    patched lower s (λ b. getD x (lower + b) 0 ⊕ (t ⊗ getD x (upper + b) 0))
-    (patched upper s (λ b. getD x (upper + b) 0 ⊕ getD x (lower + b) 0) x)

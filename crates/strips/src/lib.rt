@@ -5,7 +5,7 @@ ghost use mathlib.Core.Bool.{true};
 ghost use Prim.Native.Nat.{ℕ, _+_, _*_, _%_, _^_, _<_, _≤_};
 ghost use lib.ListN.{length, take, drop, replicate};
 ghost use Rattle.lists.specs.Listed.{listed};
-ghost use Rattle.strips.specs.Strips.{combinationOf, SourcesFit, stripAt, coupledStrips};
+ghost use Rattle.strips.specs.Strips.{combinationOf, SourcesFit, stripAt};
 ghost use Rattle.strips.specs.Strips.{addedScaled, addedStrip, doubledStrip};
 ghost use Rattle.strips.specs.Planes.{bitsAt, planeOf, offsetsOf, doubledIf, addedWith};
 ghost use Rattle.strips.specs.Planes.{partOf, addedFour, Alike, Lent};
@@ -231,18 +231,4 @@ pub fn combine(dst: &mut [u8], src: &[u8], first: usize, stride: usize, weights:
         i -= 1;
         plane(dst, src, first, stride, weights, &zeros, &mut at, i);
     }
-}
-
-// Couples the upper strip of a pair with the lower one, which lies before it in memory. Both are copied out first, so
-// that each loop reads the partner from another slice than the one it writes; the upper strip's copy is used up.
-pub fn couple(x: &mut [u8], upper: usize, lower: usize, s: usize, t: u8)
-    requires { ⌜ (s ≤ 512) × (lower + s ≤ upper) × (upper + s ≤ length (now x)) ⌝ }
-    ensures { λ _. ⌜ now (x .exit) ≡ coupledStrips t upper lower s (now (x .entry)) ⌝ }
-{
-    let mut u = [0u8; 512];
-    let mut v = [0u8; 512];
-    copy(&mut u[..s], x, upper);
-    copy(&mut v[..s], x, lower);
-    add(x, upper, &v[..s]);
-    add_multiple(x, lower, &mut u[..s], t);
 }

@@ -19,12 +19,10 @@ fn fails(p: Profile, set: &[u8]) -> bool
     requires { ⌜ Accepted p × Rising (p .n) (p .k) (now set) ⌝ }
     ensures { λ r. ⌜ r ≡ ambiguous p (now (set .entry)) ⌝ }
 {
-    let positions = half_pairs::positions(set);
-    let mut halves = [0u8; 80];
-    let count = half_pairs::list_half_pairs(&mut halves, p, set, &positions);
-    let table = half_pairs::weight_table(p, set, &positions);
-    let s = half_pairs::system_square(p, set, &table, &halves[..count]);
-    let verdict = square::judge(s, count, count);
+    let h = half_pairs::of_nodes(p, set);
+    let lines = half_pairs::small_system(p, set, h);
+    let count = h.count;
+    let verdict = square::judge(lines, count, count);
     match verdict {
         Verdict::Singular(_) => true,
         Verdict::Regular => false,

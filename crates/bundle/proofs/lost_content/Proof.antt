@@ -5,7 +5,8 @@ use Prim.Native.Nat.{ℕ}
 use borrow.Author.Needs.{needs}
 use lib.ListN.{getD}
 use Rattle.fields.specs.Fields.{fourBytes}
-use Rattle.document.specs.Bundle.{recordingBytes, lostContent}
+use Rattle.document.specs.Message.{recordingBytes}
+use Rattle.document.specs.Bundle.{lostContent}
 use Rattle.bundle.proofs.lost_content.Statement.{statement}
 use Rattle.bundle.proofs.lost_content.Tie as tie
 

@@ -1,9 +1,10 @@
 -- `bundle::write_with` meets its contract: each return is the answer of the tests that led there.
 use mathlib.Core.Path.{_≡_, sym, ap, _∙_}
-use Prim.Native.Nat.{ℕ, _+_, _*_, _<_}
+use Prim.Native.Nat.{_<_}
 use native.Mathlib.Omega.{arith}
 use borrow.Author.Needs.{needs}
-use Rattle.document.specs.Bundle.{headLength, stripFieldLength, bundleLength}
+use Rattle.document.specs.Message.{messageLength}
+use Rattle.document.specs.Bundle.{lostContentLength, bundleLength}
 use Rattle.document.proofs.Bounds.{strips-bound, array-bound}
 use Rattle.document.proofs.Price.{planned-price}
 use Rattle.bundle.proofs.Answers.{node-refused, array-refused, bundle-refused, done}
@@ -27,8 +28,7 @@ module _ (c : tie.After-bundle-length) where
   size : c .bundle-length .result ≡ bundleLength (start node .args .p) (start node .args .f)
   size =
       c .bundle-length .ensures
-      ∙ sym (ap (λ (m : ℕ). headLength + m * stripFieldLength (start node .args .p .s))
-      (planned-price _ (start node .pre) _ (known node)))
+      ∙ sym (ap (messageLength (start node .args .p) lostContentLength) (planned-price _ (start node .pre) _ (known node)))
 
 returns : tie.Need-returns
 returns c = node-refused _ _ _ _ _ (c .if1 .taken)

@@ -4,7 +4,7 @@ use native.Mathlib.Nat.{add-zero, zero-add}
 use native.Mathlib.Omega.{arith}
 use borrow.Author.Needs.{needs}
 use Rattle.document.specs.Refusals.{answerNumber}
-use Rattle.document.specs.Survey.{surveyAnswer, outcomeNumber, positionIn, lookedIn}
+use Rattle.document.specs.Survey.{surveyAnswer, outcomeNumber, failingPosition, lookedIn}
 use Rattle.exports.specs.Packed.{packedSurvey}
 use Rattle.exports.proofs.pack_survey.Statement.{statement}
 use Rattle.exports.proofs.pack_survey.Tie as tie
@@ -13,7 +13,7 @@ enum-known-answer : tie.Need-enum-known-answer
 enum-known-answer c = search needs
 
 pack-outcome-requires : tie.Need-pack-outcome-requires
-unfolding positionIn lookedIn
+unfolding failingPosition lookedIn
 pack-outcome-requires c κs =
     let a = c .before in
     let s = a .before .before in
@@ -47,19 +47,19 @@ cast-result : tie.Need-cast-result
 cast-result c = search needs
 
 returns : tie.Need-returns
-unfolding packedSurvey answerNumber surveyAnswer outcomeNumber positionIn lookedIn
+unfolding packedSurvey answerNumber surveyAnswer outcomeNumber failingPosition lookedIn
 returns c = c .pack-outcome .ensures ∙ sym (ap packedSurvey (c .before .before .answer .given .1) ∙ zero-add _)
 
 returns-2 : tie.Need-returns-2
-unfolding packedSurvey answerNumber surveyAnswer outcomeNumber positionIn lookedIn
+unfolding packedSurvey answerNumber surveyAnswer outcomeNumber failingPosition lookedIn
 returns-2 c = c .pack-outcome2 .ensures ∙ sym (ap packedSurvey (c .before .before .answer2 .given .1) ∙ zero-add _)
 
 returns-3 : tie.Need-returns-3
-unfolding packedSurvey answerNumber surveyAnswer outcomeNumber positionIn lookedIn
+unfolding packedSurvey answerNumber surveyAnswer outcomeNumber failingPosition lookedIn
 returns-3 c = c .pack-outcome3 .ensures ∙ sym (ap packedSurvey (c .before .before .answer3 .given .1) ∙ zero-add _)
 
 returns-4 : tie.Need-returns-4
-unfolding packedSurvey answerNumber surveyAnswer outcomeNumber positionIn lookedIn
+unfolding packedSurvey answerNumber surveyAnswer outcomeNumber failingPosition lookedIn
 returns-4 c = c .number .ensures ∙ sym (ap packedSurvey (c .before .before .answer4 .given .1) ∙ add-zero _)
 
 pub pack-survey-spec : {M : Type 1} → statement M

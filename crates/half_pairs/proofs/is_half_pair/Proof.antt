@@ -7,11 +7,9 @@ use native.Mathlib.Omega.{arith}
 use lib.Dec.{ltb}
 use lib.ListN.{length, getD}
 use Rattle.document.specs.declared.Place.{Place}
-use Rattle.document.proofs.Bounds.{partner-within}
-use Rattle.document.proofs.Reading.{joined-within}
-use Rattle.coefficients.specs.Weights.{positionIn}
+use Rattle.lists.specs.Positions.{positionIn}
 use Rattle.half_pairs.specs.HalfPairs.{partnerAt}
-use Rattle.half_pairs.proofs.Named.{table-length, table-at}
+use Rattle.half_pairs.proofs.Named.{joined-partner-within, table-length, table-at}
 use Rattle.half_pairs.proofs.is_half_pair.Statement.{statement}
 use Rattle.half_pairs.proofs.is_half_pair.Tie as tie
 
@@ -28,15 +26,9 @@ module _ (c : tie.After-joined-partner) where
 
   below : c .joined-partner .result .node .0 < 24
   below =
-      let p = start .args .p in
-      let acc = start .pre .0 .0 in
-      omega (
-        arith,
-        node,
-        acc .shape .few-nodes,
-        partner-within p acc _
-            (joined-within p acc (start .args .nodes .now) (start .pre .0 .1) (start .args .z) (start .pre .0 .2)) .node,
-      )
+      let r = start .pre .0 in
+      let w = joined-partner-within (start .args .p) (r .0) (start .args .nodes .now) (r .1) (start .args .z) (r .2) in
+      omega (arith, node, r .0 .shape .few-nodes, w .node)
 
   size : length (start .args .positions .now) ≡ 24
   size = ap length (start .pre .1) ∙ table-length (start .args .nodes .now)

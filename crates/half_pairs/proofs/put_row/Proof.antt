@@ -7,7 +7,7 @@ use borrow.Author.Needs.{needs}
 use lib.ListN.{length, getD}
 use Rattle.lists.specs.Listed.{listed}
 use Rattle.ksets.proofs.Ranked.{risen-length}
-use Rattle.coefficients.specs.Weights.{positionIn}
+use Rattle.lists.specs.Positions.{positionIn}
 use Rattle.half_pairs.proofs.Named.{table-length, table-at}
 use Rattle.half_pairs.proofs.Table.{row-named, row-other, nodes-different, other-outside}
 use Rattle.half_pairs.proofs.put_row.Statement.{statement}

@@ -12,10 +12,9 @@ use Rattle.document.specs.declared.Profile.{Profile}
 use Rattle.document.specs.declared.Place.{Place}
 use Rattle.document.specs.Places.{Within}
 use Rattle.document.specs.Bytes.{number}
-use Rattle.document.proofs.Bounds.{partner-within}
-use Rattle.document.proofs.Reading.{joined-within}
 use Rattle.half_pairs.specs.HalfPairs.{isNamed, partnerAt, halfPairs, halfPairAt, coefficientIn}
-use Rattle.half_pairs.proofs.Symbols.{not-true, half-each}
+use Rattle.half_pairs.proofs.Named.{joined-partner-within}
+use Rattle.half_pairs.proofs.Symbols.{half-each}
 use Rattle.half_pairs.proofs.System.{coefficientEntry, line-done, few-halves}
 use Rattle.half_pairs.proofs.system_line.Statement.{statement}
 use Rattle.half_pairs.proofs.system_line.Tie as tie
@@ -49,11 +48,10 @@ module _ (s : tie.Start Inv-loop μ-loop) where
     inside = half-each p nodes (s .pre .0 .0) (s .pre .0 .1) e below .1
 
     other : isNamed (p .k) nodes (partnerAt p nodes (halfPairAt p nodes e) .node .0) ≡ false
-    other = not-true _ (half-each p nodes (s .pre .0 .0) (s .pre .0 .1) e below .0)
+    other = half-each p nodes (s .pre .0 .0) (s .pre .0 .1) e below .0
 
     within : Within p (partnerAt p nodes (halfPairAt p nodes e))
-    within =
-        partner-within p (s .pre .0 .0) _ (joined-within p (s .pre .0 .0) nodes (s .pre .0 .1) _ inside)
+    within = joined-partner-within p (s .pre .0 .0) nodes (s .pre .0 .1) _ inside
 
 shared-slice-read-joined-partner : tie.Need-shared-slice-read-joined-partner Inv-loop μ-loop
 shared-slice-read-joined-partner c = c .before .before .before .before .pre .1 .1

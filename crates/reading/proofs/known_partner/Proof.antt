@@ -12,9 +12,10 @@ use Rattle.document.specs.declared.Place.{Place}
 use Rattle.document.specs.Places.{Within}
 use Rattle.document.proofs.Bounds.{room, table-bound, column-bound}
 use Rattle.half_pairs.specs.HalfPairs.{weightRow}
+use Rattle.half_pairs.proofs.Named.{joined-partner-within}
 use Rattle.half_pairs.proofs.Table.{row-length, weight-table-length, row-at}
 use Rattle.reading.specs.Steps.{knownPartnerStrip}
-use Rattle.reading.proofs.Partners.{strip-fits, joined-partner-within}
+use Rattle.reading.proofs.Partners.{strip-fits}
 use Rattle.reading.proofs.known_partner.Statement.{statement}
 use Rattle.reading.proofs.known_partner.Tie as tie
 

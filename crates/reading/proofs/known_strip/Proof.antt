@@ -6,7 +6,8 @@ use native.Mathlib.Omega.{arith}
 use borrow.Author.Needs.{needs}
 use lib.Arith.{digits-lt}
 use lib.ListN.{length, getD, take, drop}
-use Rattle.gf256.specs.Field.{_⊕_, _⊗_, inverse}
+use Rattle.gf256.specs.Field.{inverse}
+use Rattle.algebra.specs.Coupling.{pair}
 use Rattle.ksets.proofs.Ranked.{risen-length}
 use Rattle.strips.specs.Strips.{stripAt}
 use Rattle.strips.proofs.Strip.{strip-length, strip-part}
@@ -14,14 +15,15 @@ use Rattle.document.specs.declared.Place.{Place}
 use Rattle.document.specs.declared.Profile.{Profile}
 use Rattle.document.specs.Places.{partnerOf, Within}
 use Rattle.document.specs.Profile.{Accepted}
-use Rattle.document.specs.Bytes.{number}
+use Rattle.document.specs.Bytes.{bytes, number}
 use Rattle.document.specs.Encoding.{factorAt}
 use Rattle.document.proofs.Bounds.{room, square-bound, data-bound, partner-within}
 use Rattle.document.proofs.Reading.{joined-within}
-use Rattle.coefficients.specs.Weights.{positionIn}
+use Rattle.lists.specs.Positions.{positionIn}
+use Rattle.coupling.specs.Pairs.{uncoupledStrip}
 use Rattle.half_pairs.specs.HalfPairs.{named, partnerAt}
 use Rattle.half_pairs.proofs.Named.{table-length, table-at}
-use Rattle.reading.specs.Steps.{uncoupledStrip, knownStrip}
+use Rattle.reading.specs.Steps.{knownStrip}
 use Rattle.reading.proofs.Known.{known-stored, known-pair}
 use Rattle.reading.proofs.known_strip.Statement.{statement}
 use Rattle.reading.proofs.known_strip.Tie as tie
@@ -138,11 +140,8 @@ returns c =
 factor-requires : tie.Need-factor-requires
 factor-requires c κs = search needs
 
-factor-requires-2 : tie.Need-factor-requires-2
-factor-requires-2 c κs = search needs
-
-mul-requires : tie.Need-mul-requires
-mul-requires c κs = search needs
+determinant-requires : tie.Need-determinant-requires
+determinant-requires c κs = search needs
 
 inverse-requires : tie.Need-inverse-requires
 inverse-requires c κs = search needs
@@ -169,27 +168,27 @@ module _ (c : tie.After-row) where
 
 mul-other : tie.Need-mul-other
 mul-other c =
-    let r = c .before .before .before .before .before in
+    let r = c .before .before .before .before in
     omega (arith, other-strip r, square-bound (p (placed r)) (acc (placed r)))
 
 add-other : tie.Need-add-other
 add-other c =
-    let r = c .before .before .before .before .before .before in
+    let r = c .before .before .before .before .before in
     omega (arith, other-strip r, square-bound (p (placed r)) (acc (placed r)))
 
 mul-other-2 : tie.Need-mul-other-2
 mul-other-2 c =
-    let r = c .before .before .before .before .before .before in
+    let r = c .before .before .before .before .before in
     omega (arith, other-fits r, data-bound (p (placed r)) (acc (placed r)))
 
 add-own-end : tie.Need-add-own-end
 add-own-end c =
-    let w = placed (c .before .before .before .before .before .before) in
+    let w = placed (c .before .before .before .before .before) in
     omega (arith, own-fits w, data-bound (p w) (acc w))
 
 add-other-end : tie.Need-add-other-end
 add-other-end c =
-    let r = c .before .before .before .before .before .before in
+    let r = c .before .before .before .before .before in
     omega (arith, other-fits r, data-bound (p (placed r)) (acc (placed r)))
 
 sub-uncouple : tie.Need-sub-uncouple
@@ -199,7 +198,7 @@ part-uncouple-start : tie.Need-part-uncouple-start
 part-uncouple-start c = search needs
 
 part-uncouple-end : tie.Need-part-uncouple-end
-part-uncouple-end c = own-inside (placed (c .before .before .before .before .before .before .before))
+part-uncouple-end c = own-inside (placed (c .before .before .before .before .before .before))
 
 sub-uncouple-2 : tie.Need-sub-uncouple-2
 sub-uncouple-2 c = search needs
@@ -208,11 +207,11 @@ part-uncouple-start-2 : tie.Need-part-uncouple-start-2
 part-uncouple-start-2 c = search needs
 
 part-uncouple-end-2 : tie.Need-part-uncouple-end-2
-part-uncouple-end-2 c = other-inside (c .before .before .before .before .before .before .before .before)
+part-uncouple-end-2 c = other-inside (c .before .before .before .before .before .before .before)
 
 uncouple-requires : tie.Need-uncouple-requires
 uncouple-requires c κs =
-    let r = c .before .before .before .before .before .before .before .before .before in
+    let r = c .before .before .before .before .before .before .before .before in
     let w = placed r in
     let s = p w .s in
     let out = start w .pre .1 .1 in (
@@ -227,7 +226,7 @@ same-length-2 c = search needs
 -- the factors and the inverse of the determinant
 module _ (c : tie.After-inverse) where
   abbrev paired : tie.After-row
-  paired = c .before .before .before .before
+  paired = c .before .before .before
 
   abbrev w : tie.After-partner
   w = placed paired
@@ -238,29 +237,24 @@ module _ (c : tie.After-inverse) where
   abbrev own : ℕ
   own = z w * S
 
-  abbrev θ : ℕ → ℕ → ℕ
-  θ i l = number (factorAt (p w) i l)
-
   abbrev i : ℕ
   i = z w % p w .a
 
   abbrev m : ℕ
   m = named (nodes w) (z w / p w .a) % p w .a
 
-  factor : c .before .before .before .factor .result ≡ θ i m
-  factor = c .before .before .before .factor .ensures ∙ ap₂ θ (row w) (column w)
+  factor : c .before .before .factor .result ≡ number (factorAt (p w) i m)
+  factor = c .before .before .factor .ensures ∙ ap₂ (λ (i l : ℕ). number (factorAt (p w) i l)) (row w) (column w)
 
-  opposite : c .before .before .factor2 .result ≡ θ m i
-  opposite = c .before .before .factor2 .ensures ∙ ap₂ θ (column w) (row w)
-
-  divisor : c .inverse .result ≡ inverse (1 ⊕ (θ i m ⊗ θ m i))
-  unfolding _⊕_
+  divisor : c .inverse .result ≡ inverse (number (pair bytes (factorAt (p w)) i m))
   divisor =
       c .inverse .ensures
-      ∙ ap (λ (v : ℕ). inverse (1 ⊕ v)) (c .before .mul .ensures ∙ ap₂ _⊗_ factor opposite)
+      ∙ ap inverse
+      (c .before .determinant .ensures
+      ∙ ap₂ (λ (i l : ℕ). number (pair bytes (factorAt (p w)) i l)) (row w) (column w))
 
   -- what `uncouple` leaves of the strips that were lent
-  uncoupled : uncoupledStrip (c .before .before .before .factor .result) (c .inverse .result)
+  uncoupled : uncoupledStrip (c .before .before .factor .result) (c .inverse .result)
       (take (own + S - own) (drop own (x w))) (take (from paired + S - from paired) (drop (from paired) (x w)))
       ≡ knownStrip (p w) (nodes w) (x w) (z w)
   uncoupled =
@@ -287,8 +281,7 @@ known-strip-spec =
     same-length
     returns
     factor-requires
-    factor-requires-2
-    mul-requires
+    determinant-requires
     inverse-requires
     mul-other
     add-other

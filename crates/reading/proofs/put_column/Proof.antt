@@ -11,7 +11,7 @@ use borrow.Author.Tests.{lt-ltb, le-ltb}
 use Rattle.ksets.proofs.Ranked.{risen-length}
 use Rattle.strips.specs.Strips.{combinationOf, stripAt}
 use Rattle.document.proofs.Bounds.{room, table-bound, column-bound, data-bound}
-use Rattle.coefficients.specs.Weights.{positionIn}
+use Rattle.lists.specs.Positions.{positionIn}
 use Rattle.half_pairs.specs.HalfPairs.{weightRow}
 use Rattle.half_pairs.proofs.Named.{table-length, table-at}
 use Rattle.half_pairs.proofs.Table.{row-length, row-at, weight-table-length}

@@ -83,7 +83,10 @@ sum-row-requires c κs =
       (s .pre .0 .0, s .pre .1 .1 .0, sym (slice-aggregate-sum-row c)),
       (
         s .pre .1 .1 .1,
-        λ d. omega (arith, at .position-of .ensures, s .pre .0 .3 .others (s .args .i) (s .pre .0 .2) d),
+        (
+          s .pre .0 .2,
+          λ d. omega (arith, at .position-of .ensures, s .pre .0 .3 .others (s .args .i) (s .pre .0 .2) d),
+        ),
       ),
     )
 

@@ -1,10 +1,10 @@
 -- `rebuild::rebuild_with` meets its contract: each return is the answer of the tests that led there, and a bundle that
 -- passes has the strips of the plan.
-use mathlib.Core.Path.{sym, ap, _∙_}
+use mathlib.Core.Path.{sym, ap₂, _∙_}
 use Prim.Native.Nat.{_<_}
 use native.Mathlib.Omega.{arith}
 use borrow.Author.Needs.{needs}
-use Rattle.document.specs.Rebuild.{rebuiltOf, firstStrip}
+use Rattle.document.specs.Rebuild.{rebuiltOf}
 use Rattle.document.proofs.Bounds.{column-bound}
 use Rattle.rebuild.proofs.Answers.{node-refused, column-refused, bundle-refused, bundle-done, strips-fit}
 use Rattle.rebuild.proofs.rebuild_with.Statement.{statement}
@@ -31,25 +31,14 @@ mul-if2 c = omega (arith, column-bound _ (start (c .before) .pre))
 returns-2 : tie.Need-returns-2
 returns-2 c = column-refused _ _ _ _ _ (known (c .before .before)) (c .if2 .taken)
 
-check-requires : tie.Need-check-requires
-check-requires c κs = search needs
-
-enum-known-answer : tie.Need-enum-known-answer
-enum-known-answer c = search needs
-
-enum-told : tie.Need-enum-told
-enum-told c = search needs
-
-strip-stride-requires : tie.Need-strip-stride-requires
-strip-stride-requires c κs = search needs
-
 rebuild-column-requires : tie.Need-rebuild-column-requires
 rebuild-column-requires c κs =
-    let t = c .before .before in
+    let f = c .before .before in
+    let t = f .before in
     let k = t .before .before in
     let s = start (node k) in (
       (s .pre, known (node k), k .before .if2 .left),
-      rw (c .before .strip-stride .ensures)
+      rw (c .before .strip-stride .ensures, f .first-strip .ensures)
           (strips-fit _ _ (s .args .r) _ (sym (k .check .ensures) ∙ t .enum-told .given .1)),
     )
 
@@ -58,16 +47,14 @@ returns-3 c =
     let k = c .before .before .before in
     bundle-refused _ _ _ _ _ (known (node k)) (k .before .if2 .left) (k .check .ensures) (c .before .answer .given .1)
 
-same-length : tie.Need-same-length
-same-length c = search needs
-
 returns-4 : tie.Need-returns-4
 returns-4 c =
     let w = c .before .before in
-    let t = w .before .before .before in
+    let f = w .before .before .before in
+    let t = f .before in
     let k = t .before .before in
     bundle-done _ _ _ _ _ (known (node k)) (k .before .if2 .left) (k .check .ensures) (t .enum-told .given .1)
-    (w .rebuild-column .ensures ∙ ap (rebuiltOf _ _ _ firstStrip) (w .before .before .strip-stride .ensures))
+    (w .rebuild-column .ensures ∙ ap₂ (rebuiltOf _ _ _) (f .first-strip .ensures) (w .before .before .strip-stride .ensures))
 
 pub rebuild-with-spec : {M : Type 1} → statement M
 rebuild-with-spec =
@@ -76,11 +63,12 @@ rebuild-with-spec =
     returns
     mul-if2
     returns-2
-    check-requires
-    enum-known-answer
-    enum-told
-    strip-stride-requires
+    (λ c κs. search needs)
+    (λ c. search needs)
+    (λ c. search needs)
+    (λ c κs. search needs)
+    (λ c κs. search needs)
     rebuild-column-requires
     returns-3
-    same-length
+    (λ c. search needs)
     returns-4)

@@ -1,5 +1,5 @@
 -- `rebuild::row_coefficients` meets its contract: the part of the array that was lent holds the weights, divided by
--- the determinants, and they are scaled into zeros.
+-- the determinants; a multiple of them is written.
 use mathlib.Core.Path.{_≡_, sym, ap, subst, _∙_}
 use mathlib.Core.List.{List, _++_}
 use Prim.Native.Nat.{ℕ, _<_}
@@ -8,7 +8,6 @@ use borrow.Author.Needs.{needs}
 use lib.ListN.{length, take, drop, replicate}
 use lib.Seq.{length-take-le}
 use Rattle.gf256.specs.Field.{quotientsOf, NoZero}
-use Rattle.lists.specs.Listed.{listed}
 use Rattle.lists.proofs.Lent.{front-fits, front}
 use Rattle.document.proofs.Bounds.{group-within}
 use Rattle.coefficients.specs.Weights.{weightsOf}
@@ -85,35 +84,30 @@ module _ (c : tie.After-divided-weights) where
 scale-requires : tie.Need-scale-requires
 scale-requires c κs = search needs
 
-fill-requires : tie.Need-fill-requires
-fill-requires c κs = search needs
-
 array-share-prefix-w : tie.Need-array-share-prefix-w
 array-share-prefix-w c =
-    let d = c .before .before .before .before .before .before .before in
+    let d = c .before .before .before in
     front-fits (d .divided-weights .last .1 .1 .1 .1 .0) _ (written d)
 
-slice-aggregate-add-scaled : tie.Need-slice-aggregate-add-scaled
-slice-aggregate-add-scaled c = sym (length-take-le _ _ (array-share-prefix-w (c .before)))
+slice-aggregate-put-multiple : tie.Need-slice-aggregate-put-multiple
+slice-aggregate-put-multiple c = sym (length-take-le _ _ (array-share-prefix-w (c .before)))
 
-add-scaled-requires : tie.Need-add-scaled-requires
-add-scaled-requires c κs =
-    let s = start (c .before .before .before .before .before .before .before .before) in
-    omega (arith, slice-aggregate-add-scaled c, c .before .before .before .before .fill .kept .0, s .pre .1 .1 .1)
+put-multiple-requires : tie.Need-put-multiple-requires
+put-multiple-requires c κs =
+    let s = start (c .before .before .before .before) in
+    s .pre .1 .1 .1 ∙ slice-aggregate-put-multiple c
 
 same-length : tie.Need-same-length
 same-length c = search needs
 
 returns : tie.Need-returns
 returns c =
-    let zeros = c .before .before .before .before .before .before .before in
-    let scale = zeros .before .before in
+    let scale = c .before .before .before .before .before in
     let d = scale .before .before in
     let s = start d in
-    c .before .before .add-scaled .ensures
+    c .before .before .put-multiple .ensures
     ∙ coefficients-scaled (s .args .p) (s .args .f) (s .args .nodes .now) (s .args .i) (s .pre .1 .0 .0)
     (scale .scale .ensures) (lent d)
-    (zeros .fill .ensures ∙ ap (λ (m : ℕ). listed m (λ b. 0)) (s .pre .1 .1 .1))
 
 pub row-coefficients-spec : {M : Type 1} → statement M
 row-coefficients-spec =
@@ -127,9 +121,8 @@ row-coefficients-spec =
     slice-aggregate-divided-weights
     divided-weights-requires
     scale-requires
-    fill-requires
     array-share-prefix-w
-    slice-aggregate-add-scaled
-    add-scaled-requires
+    slice-aggregate-put-multiple
+    put-multiple-requires
     same-length
     returns)

@@ -43,7 +43,7 @@ module _ (c : tie.Then1) where
   from = start .args .own * p .s
 
   within : from + p .s ≤ (p .a - 1) * p .s
-  within = room (start .args .own) (p .a - 1) (p .s) (start .pre .1 .1 (c .if1 .taken))
+  within = room (start .args .own) (p .a - 1) (p .s) (start .pre .1 .1 .1 (c .if1 .taken))
 
   bound : from + p .s ≤ 2048
   bound =

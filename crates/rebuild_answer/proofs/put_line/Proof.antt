@@ -2,7 +2,8 @@
 use Prim.Native.Nat.{_+_, _≤_}
 use native.Mathlib.Omega.{arith}
 use borrow.Author.Needs.{needs}
-use Rattle.rebuild_answer.proofs.Text.{number-ends, number-bound, refusedText, atText, line-written}
+use Rattle.document.proofs.Refusals.{number-bound}
+use Rattle.rebuild_answer.proofs.Text.{number-ends, refusedText, atText, line-written}
 use Rattle.rebuild_answer.proofs.put_line.Statement.{statement}
 use Rattle.rebuild_answer.proofs.put_line.Tie as tie
 

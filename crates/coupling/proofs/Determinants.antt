@@ -1,0 +1,41 @@
+-- The determinant of a pair, case by case, as it is computed; it is not 0.
+use mathlib.Core.Path.{_≡_, sym, ap, _∙_}
+use mathlib.Core.Logic.{_≢_}
+use Prim.Native.Nat.{ℕ, _<_}
+use native.Mathlib.Omega.{arith}
+use Rattle.gf256.specs.Field.{_⊕_}
+use Rattle.algebra.specs.Coupling.{pair}
+use Rattle.algebra.proofs.Coupling.{pair-diagonal, pair-upper, pair-lower, pair-ne}
+use Rattle.document.specs.declared.Profile.{Profile}
+use Rattle.document.specs.Profile.{Accepted}
+use Rattle.document.specs.Bytes.{bytes, byte, number}
+use Rattle.document.specs.Encoding.{constantOf, factorAt}
+use Rattle.document.proofs.Bytes.{number-one, number-add, byte-number, byte-zero}
+use Rattle.document.proofs.Columns.{constant-ne-one}
+
+module _ (p : Profile) where
+  pub determinant-none : (i l : ℕ) → i ≡ l → 1 ≡ number (pair bytes (factorAt p) i l)
+  determinant-none i l e =
+      sym
+      (ap (λ (m : ℕ). number (pair bytes (factorAt p) i m)) (sym e)
+      ∙ ap number (pair-diagonal bytes (constantOf p) i) ∙ number-one)
+
+  pub determinant-lower : (i l : ℕ) → l < i → 1 ⊕ number (constantOf p i l) ≡ number (pair bytes (factorAt p) i l)
+  determinant-lower i l h =
+      sym
+      (ap number (pair-lower bytes (constantOf p) i l h) ∙ number-add _ _
+      ∙ ap (λ (o : ℕ). o ⊕ number (constantOf p i l)) number-one)
+
+  pub determinant-upper : (i l : ℕ) → i < l → 1 ⊕ number (constantOf p l i) ≡ number (pair bytes (factorAt p) i l)
+  determinant-upper i l h =
+      sym
+      (ap number (pair-upper bytes (constantOf p) i l h) ∙ number-add _ _
+      ∙ ap (λ (o : ℕ). o ⊕ number (constantOf p l i)) number-one)
+
+  -- it is not 0, since no constant is 1
+  pub determinant-above : Accepted p → (i l : ℕ) → i < p .a → l < p .a → 0 < number (pair bytes (factorAt p) i l)
+  determinant-above acc i l row column =
+      let ne : number (pair bytes (factorAt p) i l) ≢ 0 =
+      λ e. pair-ne bytes (constantOf p) (p .a) (constant-ne-one p acc) i l row column
+      (sym (byte-number _) ∙ ap byte e ∙ byte-zero) in
+      omega arith

@@ -1,0 +1,215 @@
+-- A message to read: where its fields stand, in document 01's numbers, and what a reader's tests decide.
+--
+-- AsWanted p content r qs b : the message b is as wanted: what holds of it exactly where no line of `messageSentences` does
+--                             (wanted-none, refuted-wanted)
+use mathlib.Core.Path.{_≡_, refl, sym, ap, ap₂, _∙_}
+use mathlib.Core.List.{List, _∷_, _++_}
+use Prim.Native.Nat.{ℕ, _+_, _*_, _<_}
+use native.Mathlib.Omega.{arith}
+use lib.ListN.{length, getD}
+use Rattle.lists.specs.Listed.{listed}
+use Rattle.lists.specs.Put.{slice}
+use Rattle.lists.specs.Each.{Each}
+use Rattle.fields.specs.Fields.{twoBytes, opening}
+use Rattle.document.specs.declared.Profile.{Profile}
+use Rattle.document.specs.declared.Place.{Place}
+use Rattle.document.specs.declared.Recording.{Recording}
+use Rattle.document.specs.declared.Refusal.{Refusal}
+use Rattle.document.specs.declared.Refusal.the-variants.{Form, Head, Misplaced, Stale}
+use Rattle.document.specs.Refusals.{numberOf, indexOf, Decides}
+use Rattle.document.specs.Places.{place, placeAt}
+use Rattle.document.specs.Message.{
+  recordingBytes,
+  profileContent,
+  messageLength,
+  messageOf,
+  placeIn,
+  recordingIn,
+  opened,
+  placed,
+  fresh,
+  stripFieldStart,
+  formed,
+  headed,
+  messageTests,
+}
+use Rattle.document.proofs.Decides.{
+  decides-eq,
+  decides-both,
+  decides-not,
+  decides-same,
+  decides-list,
+  decides-all,
+  decides-place,
+  decided,
+}
+use Rattle.document.proofs.Message.{
+  Whole,
+  message-length,
+  written-first,
+  written-second,
+  written-opening,
+  written-place,
+  written-recording,
+}
+use Rattle.demands.specs.Tables.{Decided, line, numberIn, Numbered}
+use Rattle.demands.specs.Message.{
+  fieldStart,
+  Formed,
+  Headed,
+  placeRead,
+  scenarioRead,
+  stripSentences,
+  messageSentences,
+}
+use Rattle.demands.proofs.Tables.{
+  Holds,
+  by-name,
+  NoneHolds,
+  line-by-line,
+  decided-listed,
+  decided-then,
+  map-listed,
+  map-append,
+}
+
+-- ---- where the fields stand
+module _ (p : Profile) (m : ℕ) where
+  field-is : (i : ℕ) → stripFieldStart p m i ≡ fieldStart p m i
+  unfolding stripFieldStart
+  field-is i = ap₂ (λ (h w : ℕ). h + i * w) (omega arith) (omega arith)
+
+  pub length-is : (P : ℕ) → messageLength p m P ≡ 12 + m + P * (9 + p .s)
+  unfolding stripFieldStart
+  length-is P = field-is P
+
+  module _ (b : List ℕ) (i : ℕ) where
+    abbrev at : ℕ
+    at = stripFieldStart p m i
+
+    place-is : placeIn b at ≡ placeRead b (fieldStart p m i)
+    unfolding placeIn
+    place-is =
+        let e : at + 3 + 1 ≡ fieldStart p m i + 4 = omega (arith, field-is i) in
+        ap₂ (λ (u v : ℕ). place (getD b u 0) (getD b v 0)) (ap (λ (o : ℕ). o + 3) (field-is i)) e
+
+    scenario-is : recordingIn b at ≡ scenarioRead b (fieldStart p m i)
+    unfolding recordingIn
+    scenario-is =
+        let e : at + 3 + 2 ≡ fieldStart p m i + 5 = omega (arith, field-is i) in
+        ap (λ (u : ℕ). slice b u 4) e
+
+    pub opening-is : slice b at 3 ≡ slice b (fieldStart p m i) 3
+    opening-is = ap (λ (u : ℕ). slice b u 3) (field-is i)
+
+-- ---- what the tests decide
+module _ (p : Profile) (content : List ℕ) (r : Recording) (qs : List Place) (b : List ℕ) where
+  abbrev m : ℕ
+  m = length content
+
+  abbrev P : ℕ
+  P = length qs
+
+  abbrev start : ℕ → ℕ
+  start = stripFieldStart p m
+
+  decides-formed : Decides (formed p m P b) (Formed p m P b)
+  unfolding formed opened opening twoBytes
+  decides-formed =
+      decides-same _
+      (decides-both _ _ (decides-eq (length b) (messageLength p m P))
+      (decides-both _ _ (decides-list _ _)
+      (decides-both _ _ (decides-list _ _) (decides-all P _ (λ i. decides-list _ _)))))
+      (λ h. record {
+        total = h .0 ∙ length-is p m P;
+        field-01 = h .1 .0;
+        field-02 = h .1 .1 .0;
+        fields-03 = λ i l. sym (opening-is p m b i) ∙ h .1 .1 .1 i l;
+      })
+      (λ h. (
+        h .total ∙ sym (length-is p m P),
+        (h .field-01, (h .field-02, λ i l. opening-is p m b i ∙ h .fields-03 i l)),
+      ))
+
+  decides-headed : Decides (headed p content b) (Headed p m content b)
+  unfolding headed profileContent
+  decides-headed =
+      decides-same _ (decides-both _ _ (decides-list _ _) (decides-list _ _))
+      (λ h. record { field-01 = h .0; field-02 = h .1 }) (λ h. (h .field-01, h .field-02))
+
+  decides-placed : (i : ℕ) → Decides (placed (placeAt qs i) b (start i)) (placeRead b (fieldStart p m i) ≡ placeAt qs i)
+  unfolding placed
+  decides-placed i =
+      decides-same _ (decides-place (placeIn b (start i)) (placeAt qs i)) (λ e. sym (place-is p m b i) ∙ e)
+      (λ e. place-is p m b i ∙ e)
+
+  decides-fresh : (i : ℕ) → Decides (fresh r b (start i)) (scenarioRead b (fieldStart p m i) ≡ recordingBytes r)
+  unfolding fresh
+  decides-fresh i =
+      decides-same _ (decides-list (recordingIn b (start i)) (recordingBytes r)) (λ e. sym (scenario-is p m b i) ∙ e)
+      (λ e. scenario-is p m b i ∙ e)
+
+  pub message-decided : Decided (messageTests p content r qs b) (messageSentences p (length content) content r qs b)
+  unfolding messageTests messageSentences stripSentences recordingBytes
+  message-decided =
+      line refl (decides-not _ decides-formed)
+      (λ form.
+      line refl (decides-not _ decides-headed)
+      (λ head.
+      decided-then (decided-listed P _ _ (λ i. refl) (λ i. decides-not _ (decides-placed i)))
+      (λ past. decided-listed P _ _ (λ i. refl) (λ i. decides-not _ (decides-fresh i)))))
+
+  -- a line for each strip under 8 and under 9
+  pub message-numbered : Numbered (messageSentences p (length content) content r qs b)
+      ((6, 0) ∷ (7, 0) ∷ (listed (length qs) (λ i. (8, i)) ++ listed (length qs) (λ i. (9, i))))
+  unfolding messageSentences stripSentences numberOf indexOf
+  message-numbered =
+      ap (λ (l : List (ℕ × ℕ)). (6, 0) ∷ (7, 0) ∷ l)
+      (map-append (listed P _) (listed P _) numberIn
+      ∙ ap₂ _++_ (map-listed P _ numberIn) (map-listed P _ numberIn))
+
+  -- ---- a message that passes
+  pub record AsWanted : Type 0 where
+    pub is-formed : Formed p (length content) (length qs) b
+    pub is-headed : Headed p (length content) content b
+    pub is-placed : (i : ℕ) → i < length qs → placeIn b (stripFieldStart p (length content) i) ≡ placeAt qs i
+    pub is-fresh : (i : ℕ) → i < length qs → recordingIn b (stripFieldStart p (length content) i) ≡ recordingBytes r
+
+  pub wanted-none : AsWanted → NoneHolds (messageSentences p (length content) content r qs b)
+  unfolding messageSentences stripSentences recordingBytes
+  wanted-none w =
+      let at-place : (i : ℕ) → i < P → placeRead b (fieldStart p m i) ≡ placeAt qs i =
+      λ i l. sym (place-is p m b i) ∙ w .is-placed i l in
+      let of-scenario : (i : ℕ) → i < P → scenarioRead b (fieldStart p m i) ≡ recordingBytes r =
+      λ i l. sym (scenario-is p m b i) ∙ w .is-fresh i l in
+      search line-by-line depth 20
+
+  module _ (refuted : (q : Refusal) → Holds (messageSentences p (length content) content r qs b) q → ⊥) where
+    pub refuted-wanted : AsWanted
+    unfolding messageSentences stripSentences recordingBytes
+    refuted-wanted = record {
+      is-formed = decided _ decides-formed (λ n. refuted Form (search by-name));
+      is-headed = decided _ decides-headed (λ n. refuted Head (search by-name));
+      is-placed = λ i l. place-is p m b i ∙ decided _ (decides-placed i) (λ n. refuted (Misplaced i) (search by-name));
+      is-fresh = λ i l. scenario-is p m b i ∙ decided _ (decides-fresh i) (λ n. refuted (Stale i) (search by-name));
+    }
+
+-- ---- what is written passes
+module _ (p : Profile) (content : List ℕ) (r : Recording) (strips : Place → List ℕ) {qs : List Place}
+    (whole : Each (Whole r strips (p .s)) qs) where
+  pub written-wanted : AsWanted p content r qs (messageOf p content r strips qs)
+  unfolding opening twoBytes profileContent
+  written-wanted = record {
+    is-formed = record {
+      total = message-length p content r strips whole ∙ length-is p (length content) (length qs);
+      field-01 = written-first p content r strips whole .0;
+      field-02 = written-second p content r strips whole .0;
+      fields-03 = λ i l. sym (opening-is p (length content) _ i) ∙ written-opening p content r strips whole i l;
+    };
+    is-headed = record {
+      field-01 = written-first p content r strips whole .1;
+      field-02 = written-second p content r strips whole .1;
+    };
+    is-placed = written-place p content r strips whole;
+    is-fresh = written-recording p content r strips whole;
+  }

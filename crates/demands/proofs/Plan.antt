@@ -1,0 +1,84 @@
+-- Planning: demand 1, and the planned places of demand 3.
+use mathlib.Core.Path.{refl, ap}
+use mathlib.Core.List.{List, [], _∷_, _++_}
+use Prim.Native.Nat.{ℕ, _*_, _<_}
+use lib.ListN.{length, drop}
+use Rattle.document.specs.declared.Numbers.{Numbers}
+use Rattle.document.specs.declared.Profile.{Profile}
+use Rattle.document.specs.declared.Node.{Node}
+use Rattle.document.specs.declared.Place.{Place}
+use Rattle.document.specs.declared.Refusal.the-variants.{OutOfRange}
+use Rattle.document.specs.declared.Answer.the-variants.{Done}
+use Rattle.document.specs.Refusals.{numberOf, indexOf, answerValue}
+use Rattle.document.specs.Profile.{profileOf}
+use Rattle.document.specs.Plan.{walkOf, planned, planBytes, planTests, planWith, planOf}
+use Rattle.document.proofs.Decides.{decides-lt, decides-not, decided}
+use Rattle.document.proofs.Bounds.{A>0}
+use Rattle.document.proofs.Walks.{Sound, complete-sound, walk-complete}
+use Rattle.document.proofs.Price.{over-price}
+use Rattle.document.proofs.Planned.{over-distinct, over-off-lost}
+use Rattle.document.proofs.Chosen.{planned-within}
+use Rattle.demands.specs.Tables.{Decided, none, line}
+use Rattle.demands.specs.Plan.{planSentences, Demand1Plan, Demand3Places, Demand3Walk, Demand3Plan}
+use Rattle.demands.proofs.Tables.{by-name}
+use Rattle.demands.proofs.Profile.{Granted, CallFor, call-for}
+
+-- ---- the call
+plan-decided : (p : Profile) (f : Node) (x : List ℕ) → Decided (planTests p f x) (planSentences p f x)
+unfolding planTests planSentences
+plan-decided p f x =
+    line refl (decides-not _ (decides-lt (f .0) (p .n))) (λ h. line refl (decides-lt (length x) _) (λ l. none))
+
+module _ (p : Numbers) (f : ℕ) (x : List ℕ) where
+  abbrev lost : Node
+  lost = record { 0 = f }
+
+  abbrev planAfter : Profile → List ℕ
+  planAfter q = planBytes (planned q lost) ++ drop (2 * length (planned q lost)) x
+
+  plan-call : CallFor p (λ q. planTests q lost x) (λ q. planSentences q lost x) ((4, 0) ∷ (5, 0) ∷ []) x (planOf p f x)
+      (Done (length (planned (profileOf p) lost)), planAfter (profileOf p))
+  unfolding planOf planWith planSentences numberOf indexOf
+  plan-call =
+      call-for p x (λ q. planTests q lost x) (λ q. planSentences q lost x) (λ q. length (planned q lost)) planAfter
+      (λ acc. plan-decided _ lost x) refl
+
+  pub demand-1-plan : Demand1Plan p f x
+  demand-1-plan = plan-call .exactly
+
+-- ---- the planned places
+pub demand-3-places : Demand3Places
+demand-3-places p acc f h w complete =
+    let sound : Sound (p .n) (p .a) f w = complete-sound p acc f h w complete in
+    record {
+      within = planned-within p acc f h w sound;
+      distinct = over-distinct (p .a) (A>0 p acc) (p .k) f w sound;
+      off-lost = over-off-lost (p .a) (A>0 p acc) (p .k) f w sound;
+      price = over-price p acc f h w complete;
+    }
+
+pub demand-3-walk : Demand3Walk
+unfolding planned
+demand-3-walk p f = (walk-complete p f, refl)
+
+pub demand-3-plan : Demand3Plan
+unfolding planSentences planned answerValue
+demand-3-plan p f x e = record {
+  written = ap (λ o. o .1) (granted .is-done);
+  number = ap (λ o. answerValue (o .0)) (granted .is-done);
+  places = demand-3-places (profileOf p) (granted .accepted) node below (walkOf (profileOf p) node)
+      (walk-complete (profileOf p) node);
+}
+  where
+    node : Node
+    node = record { 0 = f }
+
+    plan : List Place
+    plan = planned (profileOf p) node
+
+    granted : Granted p (planSentences (profileOf p) node x) (planOf p f x)
+        (Done (length plan), planBytes plan ++ drop (2 * length plan) x)
+    granted = plan-call p f x .granted e
+
+    below : f < p .n
+    below = decided _ (decides-lt f (p .n)) (λ n. granted .refuted {r = OutOfRange} (search by-name))

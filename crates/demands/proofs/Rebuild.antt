@@ -1,0 +1,210 @@
+-- A rebuild: demand 1, and demand 3 from the bundle on.
+use mathlib.Core.Path.{_≡_, refl, sym, ap, _∙_}
+use mathlib.Core.List.{List, _∷_, _++_}
+use Prim.Native.Nat.{ℕ, _+_, _*_, _≤_, _<_}
+use native.Mathlib.Omega.{arith}
+use lib.ListN.{length, getD}
+use Rattle.lists.specs.Listed.{listed}
+use Rattle.lists.proofs.Slice.{slice-at, slice-length}
+use Rattle.fields.specs.Fields.{fourBytes}
+use Rattle.document.specs.declared.Numbers.{Numbers}
+use Rattle.document.specs.declared.Profile.{Profile}
+use Rattle.document.specs.declared.Node.{Node}
+use Rattle.document.specs.declared.Recording.{Recording}
+use Rattle.document.specs.declared.Refusal.the-variants.{OutOfRange}
+use Rattle.document.specs.declared.Answer.{Answer}
+use Rattle.document.specs.declared.Answer.the-variants.{Done}
+use Rattle.document.specs.Refusals.{numberOf, indexOf, answerNumber, answerValue}
+use Rattle.document.specs.Profile.{Accepted, profileOf}
+use Rattle.document.specs.Plan.{walkOf, planned}
+use Rattle.document.specs.Message.{recordingBytes, stripFieldLength, stripIn, stripFieldStart}
+use Rattle.document.specs.Bundle.{lostContent, lostContentLength, bundleTests, bundleStrip}
+use Rattle.document.specs.Rebuild.{rebuiltOf, firstStrip, rebuildTests, rebuildWith, rebuildOf}
+use Rattle.document.proofs.Decides.{decides-lt, decides-eq, decides-not, decided}
+use Rattle.document.proofs.Bounds.{room}
+use Rattle.document.proofs.Walks.{Sound, walk-sound}
+use Rattle.demands.specs.Tables.{Decided, line}
+use Rattle.demands.specs.Strips.{Bytes, EncodedArray, HasStrips, columnIn}
+use Rattle.demands.specs.Bundle.{bundleSentences}
+use Rattle.demands.specs.Rebuild.{
+  rebuildSentences,
+  Demand1Rebuild,
+  NotRefused,
+  RebuiltColumn,
+  Demand3Rebuild,
+  SameStrips,
+  SameColumn,
+  SameBundle,
+  SameAnswer,
+  CutPasses,
+  CutColumn,
+  CutRebuilds,
+  CutForWanted,
+  WholeBundle,
+}
+use Rattle.demands.proofs.Tables.{by-name, NoneHolds, line-by-line}
+use Rattle.demands.proofs.Profile.{Granted, CallFor, call-for, call-answer}
+use Rattle.demands.proofs.Strips.{same-rebuilt, column-of, bundle-gives, some-fits}
+use Rattle.demands.proofs.Message.{message-decided, message-numbered, AsWanted, wanted-none, refuted-wanted}
+use Rattle.demands.proofs.Whole.{head-fixes}
+use Rattle.demands.proofs.Bundle.{
+  cut-is,
+  cut-accepted,
+  cut-below,
+  cut-strips,
+  cut-wanted,
+  bundle-ext,
+  bundle-whole,
+}
+
+-- ---- the call
+rebuild-decided : (p : Profile) (f : Node) (r : Recording) (b y : List ℕ)
+    → Decided (rebuildTests p f r b y) (rebuildSentences p f r b y)
+unfolding rebuildTests rebuildSentences bundleTests bundleSentences lostContent recordingBytes fourBytes
+rebuild-decided p f r b y =
+    line refl (decides-not _ (decides-lt (f .0) (p .n)))
+    (λ h. line refl (decides-not _ (decides-eq (length y) (p .a * p .s))) (λ l. message-decided p (lostContent f r) r (planned p f) b))
+
+module _ (p : Numbers) (f : ℕ) (r : Recording) (b y : List ℕ) where
+  abbrev profile : Profile
+  profile = profileOf p
+
+  abbrev lost : Node
+  lost = record { 0 = f }
+
+  abbrev P : ℕ
+  P = length (planned profile lost)
+
+  abbrev rebuilt : Profile → List ℕ
+  rebuilt q = rebuiltOf q lost b (firstStrip q) (stripFieldLength (q .s))
+
+  rebuild-call : CallFor p (λ q. rebuildTests q lost r b y) (λ q. rebuildSentences q lost r b y)
+      ((4, 0) ∷ (5, 0) ∷ (6, 0) ∷ (7, 0) ∷ (listed P (λ i. (8, i)) ++ listed P (λ i. (9, i)))) y (rebuildOf p f r b y)
+      (Done 0, rebuilt profile)
+  unfolding rebuildOf rebuildWith rebuildSentences bundleSentences lostContent recordingBytes fourBytes numberOf indexOf
+  rebuild-call =
+      call-for p y (λ q. rebuildTests q lost r b y) (λ q. rebuildSentences q lost r b y) (λ q. 0) rebuilt
+      (λ acc. rebuild-decided _ lost r b y)
+      (ap (λ (l : List (ℕ × ℕ)). (4, 0) ∷ (5, 0) ∷ l) (message-numbered profile (lostContent lost r) r (planned profile lost) b))
+
+  pub demand-1-rebuild : Demand1Rebuild p f r b y
+  demand-1-rebuild = rebuild-call .exactly
+
+  -- ---- a rebuild that is not refused
+  module _ (e : NotRefused p f r b y) where
+    granted : Granted p (rebuildSentences profile lost r b y) (rebuildOf p f r b y) (Done 0, rebuilt profile)
+    granted = rebuild-call .granted e
+
+    acc : Accepted profile
+    acc = granted .accepted
+
+    below : f < p .n
+    unfolding rebuildSentences
+    below = decided _ (decides-lt f (p .n)) (λ n. granted .refuted {r = OutOfRange} (search by-name))
+
+    is-wanted : AsWanted profile (lostContent lost r) r (planned profile lost) b
+    unfolding rebuildSentences bundleSentences lostContent recordingBytes fourBytes
+    is-wanted =
+        refuted-wanted profile (lostContent lost r) r (planned profile lost) b
+        (λ q h. granted .refuted {r = q} (search by-name))
+
+    sound : Sound (p .n) (p .a) lost (walkOf profile lost)
+    sound = walk-sound profile acc lost below
+
+    -- the strips of the bundle are whole
+    strips-whole : Bytes b → (i : ℕ) → i < P → (length (bundleStrip profile b i) ≡ p .s) × Bytes (bundleStrip profile b i)
+    unfolding stripIn stripFieldStart lostContent recordingBytes fourBytes
+    strips-whole small i l =
+        (size, λ o m. rw (slice-at b _ (p .s) o (omega (arith, size))) (small _ (omega (arith, size, within))))
+      where
+        within : stripFieldStart profile lostContentLength i + stripFieldLength (p .s) ≤ length b
+        within = omega (arith, room i P (stripFieldLength (p .s)) l, is-wanted .is-formed .total)
+
+        size : length (bundleStrip profile b i) ≡ p .s
+        size = slice-length b _ (p .s) (omega (arith, within))
+
+    -- the column is that of every encoded array with the strips of the bundle
+    column-done : (x : List ℕ) → EncodedArray profile x → HasStrips profile (planned profile lost) x (bundleStrip profile b)
+        → rebuildOf p f r b y .1 ≡ columnIn profile x f
+    unfolding rebuiltOf planned
+    column-done x E has =
+        ap (λ o. o .1) (granted .is-done)
+        ∙ column-of profile acc lost below (walkOf profile lost) sound x E (bundleStrip profile b) has _
+        (bundle-gives profile acc lost below (walkOf profile lost) sound b)
+
+    -- and the same from another bundle with these strips
+    column-same : (c : List ℕ) → ((i : ℕ) → i < P → bundleStrip profile b i ≡ bundleStrip profile c i)
+        → rebuilt profile ≡ rebuiltOf profile lost c (firstStrip profile) (stripFieldLength (p .s))
+    unfolding rebuiltOf planned
+    column-same c =
+        same-rebuilt profile acc lost below (walkOf profile lost) sound _ _ (bundleStrip profile b) (bundleStrip profile c)
+        (bundle-gives profile acc lost below (walkOf profile lost) sound b)
+        (bundle-gives profile acc lost below (walkOf profile lost) sound c)
+
+    rebuilt-column : Bytes b → RebuiltColumn p f r b y
+    unfolding answerValue planned
+    rebuilt-column small = record {
+      value = ap (λ o. answerValue (o .0)) (granted .is-done);
+      some = some-fits profile acc lost below (walkOf profile lost) sound (bundleStrip profile b) (strips-whole small);
+      column = column-done;
+    }
+
+module _ (p : Numbers) (f : ℕ) where
+  abbrev wanted : Profile
+  wanted = profileOf p
+
+  abbrev node : Node
+  node = record { 0 = f }
+
+  pub demand-3-rebuild : Demand3Rebuild p f
+  demand-3-rebuild r b y small e = rebuilt-column p f r b y e small
+
+  -- ---- two rebuilds
+  pub same-strips : SameStrips p f
+  same-strips r u b c y z d e same =
+      ap (λ o. o .1) (granted p f r b y d .is-done) ∙ column-same p f r b y d c same
+      ∙ sym (ap (λ o. o .1) (granted p f u c z e .is-done))
+
+  pub same-answer : SameAnswer p f
+  unfolding rebuildOf rebuildWith rebuildTests
+  same-answer r b y z e =
+      call-answer p y (λ q. rebuildTests q node r b y) _ _ ∙ (rw e)
+      ∙ sym (call-answer p z (λ q. rebuildTests q node r b z) _ _)
+
+  -- ---- rebuilds from what was cut
+  pub cut-passes : CutPasses p f
+  unfolding rebuildSentences bundleSentences lostContent recordingBytes fourBytes answerNumber
+  cut-passes x r b y cut size =
+      let under : f < p .n = cut-below p f x r b cut in
+      let read : NoneHolds (bundleSentences wanted node r b) =
+      wanted-none wanted (lostContent node r) r (planned wanted node) b (cut-wanted p f x r b cut) in
+      ap (λ (o : Answer × List ℕ). answerNumber (o .0))
+      (rebuild-call p f r b y .through (cut-accepted p f x r b cut) (search line-by-line))
+
+  pub same-column : SameColumn p f
+  same-column x y alike r u b c X Y v w d e D E =
+      same-strips v w b c d e D E (λ i l. sym (cut-strips p f x r b X i l) ∙ alike i l ∙ cut-strips p f y u c Y i l)
+
+  pub same-bundle : SameBundle p f
+  same-bundle x y alike r b c X Y =
+      cut-is p f x r b X ∙ bundle-ext wanted node r x y alike ∙ sym (cut-is p f y r c Y)
+
+  pub cut-column : CutColumn p f
+  cut-column x r u b y cut d z Z alike =
+      column-done p f u b y d z Z (λ i l. sym (alike i l) ∙ cut-strips p f x r b cut i l)
+
+  pub cut-rebuilds : CutRebuilds p f
+  cut-rebuilds x r u b y cut E d = cut-column x r u b y cut d x E (λ i l. refl)
+
+  pub cut-for-wanted : CutForWanted p f
+  unfolding lostContent recordingBytes fourBytes
+  cut-for-wanted q g x r u b y cut e =
+      let H = cut-wanted q g x r b cut .is-headed in
+      let K = is-wanted p f u b y e .is-headed in (
+        head-fixes q p (cut-accepted q g x r b cut .short) (acc p f u b y e .short) H K,
+        ap (λ (v : List ℕ). getD v 0 0) (sym (H .field-02) ∙ K .field-02),
+      )
+
+  pub whole-bundle : WholeBundle p f
+  whole-bundle r b y x e size has =
+      bundle-whole wanted node r (acc p f r b y e) (below p f r b y e) b x (is-wanted p f r b y e) size has

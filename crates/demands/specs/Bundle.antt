@@ -1,0 +1,82 @@
+-- The bundle: when writing one is refused, what it leaves, and when a reader refuses it.
+--
+-- Shown in proofs/Bundle.antt, under the name beside each:
+-- writeSentences p f x b  : the lines for cutting a bundle from the array x, written into b, past those of a profile
+-- Demand1Write p f r x b  : writing a bundle refuses as they say                                    demand-1-write
+-- WrittenBundle p f r x b : what cutting a bundle from x, written into b, leaves and answers
+-- Demand3Write            : writing a bundle that is not refused                                    demand-3-write
+-- CutFrom p f x r b       : b is a bundle cut from the stored array x
+--
+-- bundleSentences p f r b : the lines for a bundle to read, where the profile p, the lost node f and the recording r
+--                           are wanted: those of a message with 5 bytes in field 02 (Message.antt)
+--
+-- planned p f are the planned places, bundleStrip p b i is the strip i of the bundle b: document/specs/Plan.antt and
+-- Bundle.antt. The numbers are document 01's own: 17 + P(9+S).
+use mathlib.Core.Path.{_≡_}
+use mathlib.Core.List.{List, [], _∷_}
+use Prim.Native.Nat.{ℕ, _+_, _*_, _<_}
+use lib.ListN.{length}
+use Rattle.fields.specs.Fields.{fourBytes}
+use Rattle.document.specs.declared.Numbers.{Numbers}
+use Rattle.document.specs.declared.Profile.{Profile}
+use Rattle.document.specs.declared.Node.{Node}
+use Rattle.document.specs.declared.Recording.{Recording}
+use Rattle.document.specs.declared.Refusal.the-variants.{OutOfRange, BufferLength}
+use Rattle.document.specs.Refusals.{answerNumber, answerValue}
+use Rattle.document.specs.Profile.{profileOf}
+use Rattle.document.specs.Encoding.{Stored}
+use Rattle.document.specs.Plan.{planned, priceOf}
+use Rattle.document.specs.Bundle.{bundleOf, writeTests, writeOf, bundleStrip}
+use Rattle.demands.specs.Tables.{Sentence}
+use Rattle.demands.specs.Profile.{Demand1For}
+use Rattle.demands.specs.Strips.{HasStrips}
+use Rattle.demands.specs.Message.{messageSentences}
+
+-- ---- writing a bundle
+-- 5: 'a lent buffer .. has the wrong length': a stored array has nAS bytes, a bundle 17 + P(9+S).
+unfoldable pub writeSentences : Profile → Node → List ℕ → List ℕ → List Sentence
+writeSentences p f x b =
+    record { refusal = OutOfRange; says = f .0 < p .n → ⊥ }
+    ∷ record {
+      refusal = BufferLength;
+      says = (length x ≡ p .n * p .a * p .s) × (length b ≡ 17 + length (planned p f) * (9 + p .s)) → ⊥;
+    }
+    ∷ []
+
+abbrev pub Demand1Write : Numbers → ℕ → Recording → List ℕ → List ℕ → Type 1
+Demand1Write p f r x b =
+    let lost : Node = record { 0 = f } in
+    Demand1For p (λ q. writeTests q lost x b) (λ q. writeSentences q lost x b) ((4, 0) ∷ (5, 0) ∷ []) b
+    (writeOf p f r x b)
+
+module _ (p : Numbers) (f : ℕ) (r : Recording) (x b : List ℕ) where
+  abbrev written : List ℕ
+  written = writeOf p f r x b .1
+
+  pub record WrittenBundle : Type 0 where
+    -- the fields of document 01, 'once a planned place in plan order'
+    pub holds : written ≡ bundleOf (profileOf p) (record { 0 = f }) r x
+    -- 'it takes its strips from the planned places'
+    pub strips : HasStrips (profileOf p) (planned (profileOf p) (record { 0 = f })) x (bundleStrip (profileOf p) written)
+    -- 'Length: 17 + P(9+S), P the number of places.'
+    pub size : length written ≡ 17 + priceOf (p .n) (p .k) (p .a) * (9 + p .s)
+    -- 'On success the answer is 0, with .. the length for a bundle'
+    pub value : answerValue (writeOf p f r x b .0) ≡ length written
+
+abbrev pub Demand3Write : Type 0
+Demand3Write =
+    (p : Numbers) (f : ℕ) (r : Recording) (x b : List ℕ) → answerNumber (writeOf p f r x b .0) ≡ 0
+    → WrittenBundle p f r x b
+
+-- 'A bundle cut from a stored array is what writing a bundle leaves'.
+pub record CutFrom (p : Numbers) (f : ℕ) (x : List ℕ) (r : Recording) (b : List ℕ) : Type 0 where
+  pub lent : List ℕ
+  pub stored : Stored (profileOf p) x
+  pub not-refused : answerNumber (writeOf p f r x lent .0) ≡ 0
+  pub leaves : writeOf p f r x lent .1 ≡ b
+
+-- ---- a bundle to read
+-- '02, length 5: lost node, scenario number in four bytes.' A scenario of 2^32 or more would count by its lowest 32 bits;
+-- its type rules it out.
+unfoldable pub bundleSentences : Profile → Node → Recording → List ℕ → List Sentence
+bundleSentences p f r b = messageSentences p 5 (f .0 ∷ fourBytes (r .scenario)) r (planned p f) b

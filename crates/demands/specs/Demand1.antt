@@ -1,0 +1,34 @@
+-- Demand 1, whole: 'Any bytes, any numbers, any time: every entry point answers ..'. 'Each refusal is one of the ten in
+-- document 01 .., given exactly when its condition is the first that holds in the order they are tried .., and it
+-- changes no byte that was lent.'
+--
+-- Demand1 : demand 1 for the six calls, for all numbers and bytes. Shown in proofs/Demand1.antt: demand-1
+--
+-- What it says of any call is in Tables.antt and Profile.antt, each call's table in the file of that call. The small
+-- program, which is an entry point too, is in Program.antt.
+--
+-- The statements here and in the other files are about definitions. An entry point's promise, without any `requires`,
+-- is that its answer and what it leaves in the buffers lent for writing are its definition's: `encode` is encodeOf,
+-- `plan` planOf, `write_bundle` writeOf, `rebuild` rebuildOf, `read_back` readOf, `survey` surveyOf, the small program
+-- programOf, and an exported function is the same with its answer as one number.
+--
+-- 'every entry point answers': each function of the store is proved to end without a fault.
+use mathlib.Core.List.{List}
+use Prim.Native.Nat.{ℕ}
+use Rattle.document.specs.declared.Numbers.{Numbers}
+use Rattle.document.specs.declared.Recording.{Recording}
+use Rattle.demands.specs.Encoding.{Demand1Encode}
+use Rattle.demands.specs.Plan.{Demand1Plan}
+use Rattle.demands.specs.Bundle.{Demand1Write}
+use Rattle.demands.specs.Rebuild.{Demand1Rebuild}
+use Rattle.demands.specs.Reading.{Demand1Read}
+use Rattle.demands.specs.Survey.{Demand1Survey}
+
+-- 'Any bytes, any numbers, any time'
+pub record Demand1 : Type 1 where
+  pub encode : (p : Numbers) (d x : List ℕ) → Demand1Encode p d x
+  pub plan : (p : Numbers) (f : ℕ) (x : List ℕ) → Demand1Plan p f x
+  pub write : (p : Numbers) (f : ℕ) (r : Recording) (x b : List ℕ) → Demand1Write p f r x b
+  pub rebuild : (p : Numbers) (f : ℕ) (r : Recording) (b y : List ℕ) → Demand1Rebuild p f r b y
+  pub read : (p : Numbers) (nodes x y : List ℕ) → Demand1Read p nodes x y
+  pub survey : (p : Numbers) (start most : ℕ) (x : List ℕ) → Demand1Survey p start most x

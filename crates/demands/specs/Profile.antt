@@ -1,0 +1,35 @@
+-- Demand 1 for a call that is given a profile's numbers: the refusals 1, 2 and 3, and then those of the call.
+--
+-- profileSentences p : the lines for a profile's numbers
+-- profileLines       : their numbers
+-- Demand1For p tests table lines before outcome : a call that is given the numbers p refuses by these lines, and then
+--                      by its own, for an accepted profile. Shown of every such call in proofs/Profile.antt: call-for
+use mathlib.Core.Path.{_≡_}
+use mathlib.Core.Logic.{_⊎_}
+use mathlib.Core.List.{List, [], _∷_, _++_}
+use Prim.Native.Nat.{ℕ, _≤_, _<_}
+use Rattle.document.specs.declared.Numbers.{Numbers}
+use Rattle.document.specs.declared.Profile.{Profile}
+use Rattle.document.specs.declared.Refusal.the-variants.{Shape, Constant, StripLength}
+use Rattle.document.specs.declared.Answer.{Answer}
+use Rattle.document.specs.Refusals.{Test}
+use Rattle.document.specs.Profile.{ShapeAccepted, profileTests, profileOf}
+use Rattle.demands.specs.Tables.{Sentence, Demand1Of}
+
+-- 1: 'n, k or A not accepted'. 2: 't not in 2..255'. 3: 'S is 0 or above 512'.
+unfoldable pub profileSentences : Numbers → List Sentence
+profileSentences p =
+    record { refusal = Shape; says = ShapeAccepted (p .n) (p .k) (p .a) → ⊥ }
+    ∷ record { refusal = Constant; says = (2 ≤ p .t) × (p .t ≤ 255) → ⊥ }
+    ∷ record { refusal = StripLength; says = (p .s ≡ 0) ⊎ (512 < p .s) }
+    ∷ []
+
+abbrev pub profileLines : List (ℕ × ℕ)
+profileLines = (1, 0) ∷ (2, 0) ∷ (3, 0) ∷ []
+
+-- For a call that is given a profile's numbers p: its tests, its table and its lines past those of the profile.
+abbrev pub Demand1For : {X : Type 0} → Numbers → (Profile → List Test) → (Profile → List Sentence) → List (ℕ × ℕ)
+    → X → Answer × X → Type 1
+Demand1For p tests table lines before outcome =
+    Demand1Of (profileTests p ++ tests (profileOf p)) (profileSentences p ++ table (profileOf p))
+    (profileLines ++ lines) before outcome

@@ -1,0 +1,5 @@
+pub mod Places
+pub mod Fit
+pub mod Found
+pub mod Compared
+pub mod Answers

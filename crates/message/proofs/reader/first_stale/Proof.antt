@@ -1,0 +1,65 @@
+-- `message::reader::first_stale` meets its contract. The invariant: the strips passed are fresh.
+use mathlib.Core.Path.{sym, ap, _∙_}
+use Prim.Native.Nat.{_-_, _≤_, zero-le}
+use native.Mathlib.Omega.{arith}
+use borrow.Author.Needs.{needs}
+use borrow.Author.Tests.{not-true, not-false}
+use Rattle.document.specs.Message.{fresh}
+use Rattle.message.specs.Reader.{freshIn}
+use Rattle.message.proofs.Fit.{field-bounded, field-room}
+use Rattle.message.proofs.Found.{Below, below-none, below-next, found, not-found}
+use Rattle.message.proofs.reader.first_stale.Statement.{statement}
+use Rattle.message.proofs.reader.first_stale.Tie as tie
+
+abbrev Inv-loop : tie.InvT-loop
+Inv-loop p m r b count i₀ i = (i ≤ count) × Below (freshIn p m r b) i
+
+abbrev μ-loop : tie.MeasureT-loop
+μ-loop p m r b count i₀ i = count - i
+
+loop-holds : tie.Need-loop-holds Inv-loop μ-loop
+loop-holds c = (zero-le, below-none _)
+
+strip-field-requires : tie.Need-strip-field-requires Inv-loop μ-loop
+strip-field-requires c κs =
+    let t = c in
+    let fits = t .before .before .before .pre in
+    (fits .accepted, field-bounded _ _ _ _ _ fits (t .loop-test .taken))
+
+fresh-requires : tie.Need-fresh-requires Inv-loop μ-loop
+fresh-requires c κs =
+    let t = c .before in
+    let fits = t .before .before .before .pre in
+    omega (arith, c .strip-field .ensures, field-room _ _ _ _ _ fits (t .loop-test .taken))
+
+returns : tie.Need-returns Inv-loop μ-loop
+returns c =
+    let f = c .before in
+    let l = f .before .before .before in
+    let same = f .fresh .ensures ∙ ap (fresh _ _) (f .before .strip-field .ensures) in
+    found _ _ _ (omega arith) (l .loop .inv .1) (sym same ∙ not-true _ (c .if1 .taken))
+
+loop-again : tie.Need-loop-again Inv-loop μ-loop
+loop-again c =
+    let f = c .before in
+    let l = f .before .before .before in
+    let same = f .fresh .ensures ∙ ap (fresh _ _) (f .before .strip-field .ensures) in
+    (omega arith, below-next _ _ (l .loop .inv .1) (sym same ∙ not-false _ (c .if1 .left)))
+
+returns-2 : tie.Need-returns-2 Inv-loop μ-loop
+returns-2 c = not-found _ _ _ (omega arith) (c .before .loop .inv .1)
+
+pub first-stale-spec : {M : Type 1} → statement M
+first-stale-spec =
+    tie.close
+    (tie.spec
+    Inv-loop
+    μ-loop
+    loop-holds
+    strip-field-requires
+    fresh-requires
+    returns
+    (λ c. search needs)
+    (λ c. search needs)
+    loop-again
+    returns-2)
