@@ -42,9 +42,6 @@ mul-if2-2 c = omega (arith, array-bound _ (start (c .before .before) .pre))
 returns-2 : tie.Need-returns-2
 returns-2 c = array-refused _ _ _ _ _ (known (c .before .before .before)) (c .if2 .taken)
 
-bundle-length-requires : tie.Need-bundle-length-requires
-bundle-length-requires c κs = search needs
-
 returns-3 : tie.Need-returns-3
 returns-3 c =
     let l = c .before in
@@ -54,9 +51,6 @@ put-bundle-requires : tie.Need-put-bundle-requires
 put-bundle-requires c κs =
     let l = c .before .before in
     (start (node l) .pre, known (node l), l .before .if2 .left, c .before .if3 .left ∙ size l)
-
-same-length : tie.Need-same-length
-same-length c = search needs
 
 returns-4 : tie.Need-returns-4
 returns-4 c =
@@ -74,8 +68,8 @@ write-with-spec =
     mul-if2
     mul-if2-2
     returns-2
-    bundle-length-requires
+    (λ c κs. search needs)
     returns-3
     put-bundle-requires
-    same-length
+    (λ c. search needs)
     returns-4)

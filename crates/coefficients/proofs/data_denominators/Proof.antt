@@ -14,12 +14,6 @@ nodes : (c : tie.After-first-nodes)
     take k (c .first-nodes .result) ≡ dataNodes k
 nodes c = data-nodes _ (c .first-nodes .ensures) (c .before .before .pre)
 
-first-nodes-requires : tie.Need-first-nodes-requires
-first-nodes-requires c κs = search needs
-
-array-share-prefix-nodes : tie.Need-array-share-prefix-nodes
-array-share-prefix-nodes c = search needs
-
 slice-aggregate-denominators : tie.Need-slice-aggregate-denominators
 slice-aggregate-denominators c = sym (ap length (nodes (c .before)) ∙ data-length _)
 
@@ -29,9 +23,6 @@ denominators-requires c κs =
     let s = c .before .before .before .before in
     (subst Different e (data-different _ (s .pre)), sym (data-length _) ∙ ap length e)
 
-same-length : tie.Need-same-length
-same-length c = search needs
-
 returns : tie.Need-returns
 returns c =
     c .before .before .denominators .ensures ∙ ap denominatorsOf (nodes (c .before .before .before .before .before))
@@ -40,9 +31,9 @@ pub data-denominators-spec : {M : Type 1} → statement M
 data-denominators-spec =
     tie.close
     (tie.spec
-    first-nodes-requires
-    array-share-prefix-nodes
+    (λ c κs. search needs)
+    (λ c. search needs)
     slice-aggregate-denominators
     denominators-requires
-    same-length
+    (λ c. search needs)
     returns)

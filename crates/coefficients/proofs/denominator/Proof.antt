@@ -14,12 +14,6 @@ use Rattle.coefficients.proofs.Lagrange.{differences-length}
 use Rattle.coefficients.proofs.denominator.Statement.{statement}
 use Rattle.coefficients.proofs.denominator.Tie as tie
 
-shared-slice-read-differences : tie.Need-shared-slice-read-differences
-shared-slice-read-differences c = search needs
-
-array-borrow-prefix-d : tie.Need-array-borrow-prefix-d
-array-borrow-prefix-d c = search needs
-
 slice-aggregate-differences : tie.Need-slice-aggregate-differences
 slice-aggregate-differences c = sym (length-take-le _ _ (omega arith))
 
@@ -30,9 +24,6 @@ differences-requires c κs = length-take-le _ _ (omega arith)
 written : (c : tie.After-differences)
     → length (c .differences .last .1 .1 .0) ≡ length (c .before .before .before .before .args .nodes .now)
 written c = ap length (c .differences .ensures) ∙ differences-length _ _
-
-array-write-d : tie.Need-array-write-d
-array-write-d c = search needs
 
 array-share-prefix-d : tie.Need-array-share-prefix-d
 array-share-prefix-d c = simp length-set (front-fits (c .before .differences .last .1 .1 .0) _ (written (c .before)))
@@ -58,11 +49,11 @@ pub denominator-spec : {M : Type 1} → statement M
 denominator-spec =
     tie.close
     (tie.spec
-    shared-slice-read-differences
-    array-borrow-prefix-d
+    (λ c. search needs)
+    (λ c. search needs)
     slice-aggregate-differences
     differences-requires
-    array-write-d
+    (λ c. search needs)
     array-share-prefix-d
     slice-aggregate-product-of
     product-of-requires

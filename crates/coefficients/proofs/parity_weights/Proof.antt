@@ -15,17 +15,8 @@ nodes : (c : tie.After-first-nodes)
     take k (c .first-nodes .result) ≡ dataNodes k
 nodes c = data-nodes _ (c .first-nodes .ensures) (c .before .before .before .pre .0 .0)
 
-first-nodes-requires : tie.Need-first-nodes-requires
-first-nodes-requires c κs = search needs
-
-array-share-prefix-nodes : tie.Need-array-share-prefix-nodes
-array-share-prefix-nodes c = search needs
-
 slice-aggregate-weights : tie.Need-slice-aggregate-weights
 slice-aggregate-weights c = sym (ap length (nodes (c .before)) ∙ data-length _)
-
-cast-weights : tie.Need-cast-weights
-cast-weights c = search needs
 
 weights-requires : tie.Need-weights-requires
 weights-requires c κs =
@@ -39,9 +30,6 @@ weights-requires c κs =
       ),
     )
 
-same-length : tie.Need-same-length
-same-length c = search needs
-
 returns : tie.Need-returns
 returns c =
     let w = c .before .before in
@@ -53,10 +41,10 @@ pub parity-weights-spec : {M : Type 1} → statement M
 parity-weights-spec =
     tie.close
     (tie.spec
-    first-nodes-requires
-    array-share-prefix-nodes
+    (λ c κs. search needs)
+    (λ c. search needs)
     slice-aggregate-weights
-    cast-weights
+    (λ c. search needs)
     weights-requires
-    same-length
+    (λ c. search needs)
     returns)

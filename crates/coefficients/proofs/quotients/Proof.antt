@@ -9,21 +9,6 @@ use borrow.Author.Needs.{needs}
 use Rattle.coefficients.proofs.quotients.Statement.{statement}
 use Rattle.coefficients.proofs.quotients.Tie as tie
 
-product-of-requires : tie.Need-product-of-requires
-product-of-requires c κs = search needs
-
-fill-requires : tie.Need-fill-requires
-fill-requires c κs = search needs
-
-divide-all-requires : tie.Need-divide-all-requires
-divide-all-requires c κs = search needs
-
-divide-all-requires-2 : tie.Need-divide-all-requires-2
-divide-all-requires-2 c κs = search needs
-
-same-length : tie.Need-same-length
-same-length c = search needs
-
 returns : tie.Need-returns
 unfolding weightsFrom
 returns c =
@@ -44,9 +29,9 @@ pub quotients-spec : {M : Type 1} → statement M
 quotients-spec =
     tie.close
     (tie.spec
-    product-of-requires
-    fill-requires
-    divide-all-requires
-    divide-all-requires-2
-    same-length
+    (λ c κs. search needs)
+    (λ c κs. search needs)
+    (λ c κs. search needs)
+    (λ c κs. search needs)
+    (λ c. search needs)
     returns)

@@ -13,9 +13,6 @@ use borrow.Author.Needs.{needs}
 use Rattle.coefficients.proofs.weights.Statement.{statement}
 use Rattle.coefficients.proofs.weights.Tie as tie
 
-array-borrow-prefix-d : tie.Need-array-borrow-prefix-d
-array-borrow-prefix-d c = search needs
-
 slice-aggregate-differences : tie.Need-slice-aggregate-differences
 slice-aggregate-differences c = sym (length-take-le _ _ (omega arith))
 
@@ -56,9 +53,6 @@ quotients-requires c κs =
       s .pre .1 .1 .1 ∙ slice-aggregate-quotients (c .before),
     )
 
-same-length : tie.Need-same-length
-same-length c = search needs
-
 returns : tie.Need-returns
 returns c =
     let q = c .before .before in
@@ -71,11 +65,11 @@ pub weights-spec : {M : Type 1} → statement M
 weights-spec =
     tie.close
     (tie.spec
-    array-borrow-prefix-d
+    (λ c. search needs)
     slice-aggregate-differences
     differences-requires
     array-share-prefix-d
     slice-aggregate-quotients
     quotients-requires
-    same-length
+    (λ c. search needs)
     returns)

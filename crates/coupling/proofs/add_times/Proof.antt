@@ -13,12 +13,6 @@ use Rattle.strips.proofs.Added.{added-once}
 use Rattle.coupling.proofs.add_times.Statement.{statement}
 use Rattle.coupling.proofs.add_times.Tie as tie
 
-add-requires : tie.Need-add-requires
-add-requires c κs = search needs
-
-same-length : tie.Need-same-length
-same-length c = search needs
-
 returns : tie.Need-returns
 returns c =
     let t = c .before .before .before .before in
@@ -27,12 +21,6 @@ returns c =
     c .before .before .add .ensures
     ∙ added-once 0 (a .strip .now) (a .x .now) (λ b. omega (arith, k .shared-slice-known .given b))
     ∙ ap (λ (v : ℕ). addedScaled v 0 (a .strip .now) (a .x .now)) (sym (t .if1 .taken))
-
-add-scaled-requires : tie.Need-add-scaled-requires
-add-scaled-requires c κs = search needs
-
-same-length-2 : tie.Need-same-length-2
-same-length-2 c = search needs
 
 returns-2 : tie.Need-returns-2
 returns-2 c = c .before .before .add-scaled .ensures
@@ -69,9 +57,6 @@ add-multiple-requires : tie.Need-add-multiple-requires
 add-multiple-requires c κs =
     omega (arith, slice-aggregate-add-multiple c, start (c .before .before .before) .pre)
 
-same-length-3 : tie.Need-same-length-3
-same-length-3 c = search needs
-
 returns-3 : tie.Need-returns-3
 returns-3 c =
     let w = c .before .before .before .before .before .before .before in
@@ -83,11 +68,11 @@ pub add-times-spec : {M : Type 1} → statement M
 add-times-spec =
     tie.close
     (tie.spec
-    add-requires
-    same-length
+    (λ c κs. search needs)
+    (λ c. search needs)
     returns
-    add-scaled-requires
-    same-length-2
+    (λ c κs. search needs)
+    (λ c. search needs)
     returns-2
     array-borrow-prefix-u
     slice-aggregate-copy
@@ -95,5 +80,5 @@ add-times-spec =
     array-borrow-prefix-u-2
     slice-aggregate-add-multiple
     add-multiple-requires
-    same-length-3
+    (λ c. search needs)
     returns-3)

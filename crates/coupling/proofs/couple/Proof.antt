@@ -39,9 +39,6 @@ add-z c =
     let s = c .before .before .before .before .before .before .before .before in
     omega (arith, strips-bound (s .args .p) (s .pre .0), c .before .before .before .before .loop-test .taken)
 
-loop-less : tie.Need-loop-less Inv-loop μ-loop
-loop-less c = search needs
-
 loop-again : tie.Need-loop-again Inv-loop μ-loop
 loop-again c =
     let l = c .before .before .before .before .before in
@@ -77,7 +74,7 @@ couple-spec =
     loop-holds
     couple-strip-requires
     add-z
-    loop-less
+    (λ c. search needs)
     loop-again
     same-length
     returns)

@@ -89,9 +89,6 @@ add-multiple-requires c κs =
     let w = added .before .before .before .before in
     omega (arith, slice-aggregate-add-multiple c, added .add .kept, (start w) .pre)
 
-same-length : tie.Need-same-length
-same-length c = search needs
-
 returns : tie.Need-returns
 returns c =
     let added = c .before .before .before .before .before .before .before .before in
@@ -118,5 +115,5 @@ couple-pair-spec =
     array-borrow-prefix-u-2
     slice-aggregate-add-multiple
     add-multiple-requires
-    same-length
+    (λ c. search needs)
     returns)

@@ -58,12 +58,6 @@ module _ (c : tie.After-start2) where
   inside : z * p .s + p .s ≤ length (q .before .before .args .x .now)
   inside = rw (q .before .before .pre .1) (room z (p .n * p .a) (p .s) (q .before .before .pre .2))
 
-place-requires : tie.Need-place-requires
-place-requires c κs = search needs
-
-rem-l : tie.Need-rem-l
-rem-l c = search needs
-
 partner-requires : tie.Need-partner-requires
 partner-requires c κs =
     let q = c .before .before .before in
@@ -82,9 +76,6 @@ start-requires-2 c κs =
       rw (c .before .before .partner .ensures) (partner-within (s .args .p) (s .pre .0) (q .place .result) (within q)),
     )
 
-constant-requires : tie.Need-constant-requires
-constant-requires c κs = search needs
-
 couple-pair-requires : tie.Need-couple-pair-requires
 couple-pair-requires c κs =
     let b = c .before .before in (
@@ -92,9 +83,6 @@ couple-pair-requires c κs =
       omega (arith, upper-start b, lower-start b, apart b),
       omega (arith, upper-start b, inside b),
     )
-
-same-length : tie.Need-same-length
-same-length c = search needs
 
 returns : tie.Need-returns
 returns c =
@@ -117,13 +105,13 @@ pub couple-strip-spec : {M : Type 1} → statement M
 couple-strip-spec =
     tie.close
     (tie.spec
-    place-requires
-    rem-l
+    (λ c κs. search needs)
+    (λ c. search needs)
     partner-requires
     start-requires
     start-requires-2
-    constant-requires
+    (λ c κs. search needs)
     couple-pair-requires
-    same-length
+    (λ c. search needs)
     returns
     returns-2)

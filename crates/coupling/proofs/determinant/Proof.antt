@@ -8,18 +8,12 @@ use Rattle.coupling.proofs.Determinants.{determinant-none, determinant-
 use Rattle.coupling.proofs.determinant.Statement.{statement}
 use Rattle.coupling.proofs.determinant.Tie as tie
 
-constant-requires : tie.Need-constant-requires
-constant-requires c κs = search needs
-
 returns : tie.Need-returns
 unfolding _⊕_
 returns c =
     let a = c .before .before .args in
     ap (λ (t : ℕ). 1 ⊕ t) (c .constant .ensures)
     ∙ determinant-lower (a .p) (a .i .0) (a .l) (c .before .if1 .taken)
-
-constant-requires-2 : tie.Need-constant-requires-2
-constant-requires-2 c κs = search needs
 
 returns-2 : tie.Need-returns-2
 unfolding _⊕_
@@ -35,4 +29,4 @@ returns-3 c =
 
 pub determinant-spec : {M : Type 1} → statement M
 determinant-spec =
-    tie.close (tie.spec constant-requires returns constant-requires-2 returns-2 returns-3)
+    tie.close (tie.spec (λ c κs. search needs) returns (λ c κs. search needs) returns-2 returns-3)

@@ -10,12 +10,6 @@ use Rattle.coupling.proofs.Multiples.{multiple-one, multiple-added}
 use Rattle.coupling.proofs.put_multiple.Statement.{statement}
 use Rattle.coupling.proofs.put_multiple.Tie as tie
 
-copy-requires : tie.Need-copy-requires
-copy-requires c κs = search needs
-
-same-length : tie.Need-same-length
-same-length c = search needs
-
 returns : tie.Need-returns
 returns c =
     let f = c .before .before in
@@ -26,17 +20,11 @@ returns c =
     ∙ multiple-one (s .args .d) (s .args .strip .now) (t .if1 .taken)
     (λ b. omega (arith, known .shared-slice-known .given b))
 
-fill-requires : tie.Need-fill-requires
-fill-requires c κs = search needs
-
 add-scaled-requires : tie.Need-add-scaled-requires
 add-scaled-requires c κs =
     let f = c .before .before .before in
     let s = f .before .before .before .before .before in
     omega (arith, ap length (f .fill .ensures) ∙ listed-length (length (s .args .out .now)) _, s .pre)
-
-same-length-2 : tie.Need-same-length-2
-same-length-2 c = search needs
 
 returns-2 : tie.Need-returns-2
 returns-2 c =
@@ -50,10 +38,10 @@ pub put-multiple-spec : {M : Type 1} → statement M
 put-multiple-spec =
     tie.close
     (tie.spec
-    copy-requires
-    same-length
+    (λ c κs. search needs)
+    (λ c. search needs)
     returns
-    fill-requires
+    (λ c κs. search needs)
     add-scaled-requires
-    same-length-2
+    (λ c. search needs)
     returns-2)

@@ -81,9 +81,6 @@ slice-aggregate-put-multiple c = sym (length-take-le _ _ (array-share-prefix-sum
 put-multiple-requires : tie.Need-put-multiple-requires
 put-multiple-requires c κs = slice-aggregate-put-multiple c
 
-same-length : tie.Need-same-length
-same-length c = search needs
-
 returns : tie.Need-returns
 returns c =
     let m = c .before .before in
@@ -107,5 +104,5 @@ uncouple-spec =
     array-share-prefix-sum
     slice-aggregate-put-multiple
     put-multiple-requires
-    same-length
+    (λ c. search needs)
     returns)

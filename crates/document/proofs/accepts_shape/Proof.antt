@@ -19,14 +19,8 @@ returns-3 c = sym (decides-false _ (decides-shape _ _ _) (λ s. omega (arith, s)
 returns-4 : tie.Need-returns-4
 returns-4 c = sym (decides-false _ (decides-shape _ _ _) (λ s. omega (arith, s)))
 
-sub-if5 : tie.Need-sub-if5
-sub-if5 c = search needs
-
 returns-5 : tie.Need-returns-5
 returns-5 c = sym (decides-false _ (decides-shape _ _ _) (λ s. omega (arith, s)))
-
-rem-if6 : tie.Need-rem-if6
-rem-if6 c = search needs
 
 returns-6 : tie.Need-returns-6
 returns-6 c = sym (decides-false _ (decides-shape _ _ _) (λ s. c .if6 .taken (s .whole-groups)))
@@ -46,4 +40,4 @@ returns-7 c =
 pub accepts-shape-spec : {M : Type 1} → statement M
 accepts-shape-spec =
     tie.close
-    (tie.spec returns returns-2 returns-3 returns-4 sub-if5 returns-5 rem-if6 returns-6 returns-7)
+    (tie.spec returns returns-2 returns-3 returns-4 (λ c. search needs) returns-5 (λ c. search needs) returns-6 returns-7)

@@ -40,15 +40,6 @@ mul-if2-2 c = omega (arith, array-bound _ (c .before .before .before .before .be
 returns-2 : tie.Need-returns-2
 returns-2 c = array-refused _ _ _ (c .before .before .before .if1 .left) (c .if2 .taken)
 
-put-rows-requires : tie.Need-put-rows-requires
-put-rows-requires c κs = search needs
-
-couple-requires : tie.Need-couple-requires
-couple-requires c κs = search needs
-
-same-length : tie.Need-same-length
-same-length c = search needs
-
 returns-3 : tie.Need-returns-3
 returns-3 c =
     let r = c .before .before .before .before .before .before in
@@ -67,7 +58,7 @@ encode-with-spec =
     mul-if2
     mul-if2-2
     returns-2
-    put-rows-requires
-    couple-requires
-    same-length
+    (λ c κs. search needs)
+    (λ c κs. search needs)
+    (λ c. search needs)
     returns-3)

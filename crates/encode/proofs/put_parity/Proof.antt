@@ -33,9 +33,6 @@ parity-weights-requires c κs =
       s .pre .1 .1 ∙ ap dataDenominators e,
     )
 
-mul-combine : tie.Need-mul-combine
-mul-combine c = search needs
-
 -- the part of the array that was lent holds the weights
 module _ (c : tie.After-parity-weights) where
   abbrev start : tie.Start
@@ -76,9 +73,6 @@ combine-requires c κs =
           omega (arith, r, s .pre .1 .0, mul-assoc (p .k) (p .a) (p .s));
     }
 
-same-length : tie.Need-same-length
-same-length c = search needs
-
 returns : tie.Need-returns
 returns c =
     let w = c .before .before .before .before .before .before .before in
@@ -96,9 +90,9 @@ put-parity-spec =
     array-borrow-prefix-weights
     slice-aggregate-parity-weights
     parity-weights-requires
-    mul-combine
+    (λ c. search needs)
     array-share-prefix-weights
     slice-aggregate-combine
     combine-requires
-    same-length
+    (λ c. search needs)
     returns)

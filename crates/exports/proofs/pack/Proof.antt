@@ -17,23 +17,8 @@ refused-value : (c : tie.After-answer2) → indexOf (c .answer2 .given .0 .0) < 
 unfolding answerValue
 refused-value c = rw (c .answer2 .given .1) at (c .before .before .pre)
 
-enum-known-answer : tie.Need-enum-known-answer
-enum-known-answer c = search needs
-
 mul-result : tie.Need-mul-result
 mul-result c = omega (arith, done-value (c .before))
-
-enum-known-answer-2 : tie.Need-enum-known-answer-2
-enum-known-answer-2 c = search needs
-
-number-requires : tie.Need-number-requires
-number-requires c κs = search needs
-
-cast-result : tie.Need-cast-result
-cast-result c = search needs
-
-index-requires : tie.Need-index-requires
-index-requires c κs = search needs
 
 mul-result-2 : tie.Need-mul-result-2
 mul-result-2 c = omega (arith, refused-value (c .before .before .before), c .index .ensures)
@@ -55,12 +40,12 @@ pub pack-spec : {M : Type 1} → statement M
 pack-spec =
     tie.close
     (tie.spec
-    enum-known-answer
+    (λ c. search needs)
     mul-result
-    enum-known-answer-2
-    number-requires
-    cast-result
-    index-requires
+    (λ c. search needs)
+    (λ c κs. search needs)
+    (λ c. search needs)
+    (λ c κs. search needs)
     mul-result-2
     add-result
     returns

@@ -9,9 +9,6 @@ use Rattle.exports.specs.Packed.{packedSurvey}
 use Rattle.exports.proofs.pack_survey.Statement.{statement}
 use Rattle.exports.proofs.pack_survey.Tie as tie
 
-enum-known-answer : tie.Need-enum-known-answer
-enum-known-answer c = search needs
-
 pack-outcome-requires : tie.Need-pack-outcome-requires
 unfolding failingPosition lookedIn
 pack-outcome-requires c κs =
@@ -19,32 +16,17 @@ pack-outcome-requires c κs =
     let s = a .before .before in
     (omega arith, rw (a .answer .given .1) at (s .pre .0), rw (a .answer .given .1) at (s .pre .1))
 
-enum-known-answer-2 : tie.Need-enum-known-answer-2
-enum-known-answer-2 c = search needs
-
 pack-outcome-requires-2 : tie.Need-pack-outcome-requires-2
 unfolding lookedIn
 pack-outcome-requires-2 c κs =
     let a = c .before in
     (omega arith, omega arith, rw (a .answer2 .given .1) at (a .before .before .pre .1))
 
-enum-known-answer-3 : tie.Need-enum-known-answer-3
-enum-known-answer-3 c = search needs
-
 pack-outcome-requires-3 : tie.Need-pack-outcome-requires-3
 unfolding lookedIn
 pack-outcome-requires-3 c κs =
     let a = c .before in
     (omega arith, omega arith, rw (a .answer3 .given .1) at (a .before .before .pre .1))
-
-enum-known-answer-4 : tie.Need-enum-known-answer-4
-enum-known-answer-4 c = search needs
-
-number-requires : tie.Need-number-requires
-number-requires c κs = search needs
-
-cast-result : tie.Need-cast-result
-cast-result c = search needs
 
 returns : tie.Need-returns
 unfolding packedSurvey answerNumber surveyAnswer outcomeNumber failingPosition lookedIn
@@ -66,15 +48,15 @@ pub pack-survey-spec : {M : Type 1} → statement M
 pack-survey-spec =
     tie.close
     (tie.spec
-    enum-known-answer
+    (λ c. search needs)
     pack-outcome-requires
-    enum-known-answer-2
+    (λ c. search needs)
     pack-outcome-requires-2
-    enum-known-answer-3
+    (λ c. search needs)
     pack-outcome-requires-3
-    enum-known-answer-4
-    number-requires
-    cast-result
+    (λ c. search needs)
+    (λ c κs. search needs)
+    (λ c. search needs)
     returns
     returns-2
     returns-3

@@ -9,15 +9,9 @@ use Rattle.exports.proofs.Values.{packable}
 use Rattle.exports.proofs.whaupfield_encode.Statement.{statement}
 use Rattle.exports.proofs.whaupfield_encode.Tie as tie
 
-encode-requires : tie.Need-encode-requires
-encode-requires c κs = search needs
-
 pack-requires : tie.Need-pack-requires
 pack-requires c κs =
     packable _ _ _ (c .before .before .encode .ensures) 0 (omega arith) (encode-value _ _ _)
-
-same-length : tie.Need-same-length
-same-length c = search needs
 
 returns : tie.Need-returns
 returns c =
@@ -25,4 +19,4 @@ returns c =
     ap (λ (n : ℕ). (n, e .encode .last .1 .1 .0)) (c .pack .ensures) ∙ ap packedWith (e .encode .ensures)
 
 pub whaupfield-encode-spec : {M : Type 1} → statement M
-whaupfield-encode-spec = tie.close (tie.spec encode-requires pack-requires same-length returns)
+whaupfield-encode-spec = tie.close (tie.spec (λ c κs. search needs) pack-requires (λ c. search needs) returns)

@@ -10,15 +10,9 @@ use Rattle.exports.proofs.Values.{packable}
 use Rattle.exports.proofs.whaupfield_plan.Statement.{statement}
 use Rattle.exports.proofs.whaupfield_plan.Tie as tie
 
-plan-requires : tie.Need-plan-requires
-plan-requires c κs = search needs
-
 pack-requires : tie.Need-pack-requires
 pack-requires c κs =
     packable _ _ _ (c .before .before .plan .ensures) maxPlaces (omega arith) (plan-value _ _ _)
-
-same-length : tie.Need-same-length
-same-length c = search needs
 
 returns : tie.Need-returns
 returns c =
@@ -26,4 +20,4 @@ returns c =
     ap (λ (n : ℕ). (n, e .plan .last .1 .1 .0)) (c .pack .ensures) ∙ ap packedWith (e .plan .ensures)
 
 pub whaupfield-plan-spec : {M : Type 1} → statement M
-whaupfield-plan-spec = tie.close (tie.spec plan-requires pack-requires same-length returns)
+whaupfield-plan-spec = tie.close (tie.spec (λ c κs. search needs) pack-requires (λ c. search needs) returns)

@@ -9,15 +9,9 @@ use Rattle.exports.proofs.Values.{packable}
 use Rattle.exports.proofs.whaupfield_read_back.Statement.{statement}
 use Rattle.exports.proofs.whaupfield_read_back.Tie as tie
 
-read-back-requires : tie.Need-read-back-requires
-read-back-requires c κs = search needs
-
 pack-requires : tie.Need-pack-requires
 pack-requires c κs =
     packable _ _ _ (c .before .before .read-back .ensures) 0 (omega arith) (read-value _ _ _ _)
-
-same-length : tie.Need-same-length
-same-length c = search needs
 
 returns : tie.Need-returns
 returns c =
@@ -25,4 +19,4 @@ returns c =
     ap (λ (n : ℕ). (n, e .read-back .last .1 .1 .1 .0)) (c .pack .ensures) ∙ ap packedWith (e .read-back .ensures)
 
 pub whaupfield-read-back-spec : {M : Type 1} → statement M
-whaupfield-read-back-spec = tie.close (tie.spec read-back-requires pack-requires same-length returns)
+whaupfield-read-back-spec = tie.close (tie.spec (λ c κs. search needs) pack-requires (λ c. search needs) returns)

@@ -10,15 +10,9 @@ use Rattle.exports.proofs.Values.{packable}
 use Rattle.exports.proofs.whaupfield_rebuild.Statement.{statement}
 use Rattle.exports.proofs.whaupfield_rebuild.Tie as tie
 
-rebuild-requires : tie.Need-rebuild-requires
-rebuild-requires c κs = search needs
-
 pack-requires : tie.Need-pack-requires
 pack-requires c κs =
     packable _ _ _ (c .before .before .rebuild .ensures) 37 (omega arith) (le-of-suc-le-suc (rebuild-value _ _ _ _ _))
-
-same-length : tie.Need-same-length
-same-length c = search needs
 
 returns : tie.Need-returns
 returns c =
@@ -26,4 +20,4 @@ returns c =
     ap (λ (n : ℕ). (n, e .rebuild .last .1 .1 .1 .1 .0)) (c .pack .ensures) ∙ ap packedWith (e .rebuild .ensures)
 
 pub whaupfield-rebuild-spec : {M : Type 1} → statement M
-whaupfield-rebuild-spec = tie.close (tie.spec rebuild-requires pack-requires same-length returns)
+whaupfield-rebuild-spec = tie.close (tie.spec (λ c κs. search needs) pack-requires (λ c. search needs) returns)

@@ -9,15 +9,9 @@ use Rattle.exports.proofs.Values.{survey-fits}
 use Rattle.exports.proofs.whaupfield_survey.Statement.{statement}
 use Rattle.exports.proofs.whaupfield_survey.Tie as tie
 
-survey-requires : tie.Need-survey-requires
-survey-requires c κs = search needs
-
 pack-survey-requires : tie.Need-pack-survey-requires
 pack-survey-requires c κs =
     rw (ap (λ (o : Surveyed × List ℕ). o .0) (c .before .before .survey .ensures)) (survey-fits _ _ _ _)
-
-same-length : tie.Need-same-length
-same-length c = search needs
 
 returns : tie.Need-returns
 returns c =
@@ -26,4 +20,4 @@ returns c =
     ∙ ap packedSurveyWith (e .survey .ensures)
 
 pub whaupfield-survey-spec : {M : Type 1} → statement M
-whaupfield-survey-spec = tie.close (tie.spec survey-requires pack-survey-requires same-length returns)
+whaupfield-survey-spec = tie.close (tie.spec (λ c κs. search needs) pack-survey-requires (λ c. search needs) returns)

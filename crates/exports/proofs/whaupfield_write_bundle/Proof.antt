@@ -10,15 +10,9 @@ use Rattle.exports.proofs.Values.{packable}
 use Rattle.exports.proofs.whaupfield_write_bundle.Statement.{statement}
 use Rattle.exports.proofs.whaupfield_write_bundle.Tie as tie
 
-write-bundle-requires : tie.Need-write-bundle-requires
-write-bundle-requires c κs = search needs
-
 pack-requires : tie.Need-pack-requires
 pack-requires c κs =
     packable _ _ _ (c .before .before .write-bundle .ensures) longestBundle (omega arith) (write-value _ _ _ _ _)
-
-same-length : tie.Need-same-length
-same-length c = search needs
 
 returns : tie.Need-returns
 returns c =
@@ -27,4 +21,4 @@ returns c =
     ∙ ap packedWith (e .write-bundle .ensures)
 
 pub whaupfield-write-bundle-spec : {M : Type 1} → statement M
-whaupfield-write-bundle-spec = tie.close (tie.spec write-bundle-requires pack-requires same-length returns)
+whaupfield-write-bundle-spec = tie.close (tie.spec (λ c κs. search needs) pack-requires (λ c. search needs) returns)

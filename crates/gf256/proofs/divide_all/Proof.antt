@@ -19,31 +19,13 @@ Inv-loop xs₀ ys exp log i₀ xs i =
 abbrev μ-loop : tie.MeasureT-loop
 μ-loop xs₀ ys exp log i₀ xs i = length xs - i
 
-powers-requires : tie.Need-powers-requires Inv-loop μ-loop
-powers-requires c κs = search needs
-
-logs-requires : tie.Need-logs-requires Inv-loop μ-loop
-logs-requires c κs = search needs
-
 loop-holds : tie.Need-loop-holds Inv-loop μ-loop
 loop-holds c = (omega arith, refl, refl)
-
-slice-read-quotient : tie.Need-slice-read-quotient Inv-loop μ-loop
-slice-read-quotient c = search needs
-
-shared-slice-read-quotient : tie.Need-shared-slice-read-quotient Inv-loop μ-loop
-shared-slice-read-quotient c = search needs
 
 quotient-requires : tie.Need-quotient-requires Inv-loop μ-loop
 quotient-requires c κs =
     let b = c .before .before .before .before .before in
     (search needs, b .before .before .before .before .before .pre .1 (b .loop .i) (omega arith))
-
-slice-write-xs : tie.Need-slice-write-xs Inv-loop μ-loop
-slice-write-xs c = search needs
-
-add-i : tie.Need-add-i Inv-loop μ-loop
-add-i c = search needs
 
 loop-less : tie.Need-loop-less Inv-loop μ-loop
 loop-less c = simp length-set (omega arith)
@@ -74,14 +56,14 @@ divide-all-spec =
     (tie.spec
     Inv-loop
     μ-loop
-    powers-requires
-    logs-requires
+    (λ c κs. search needs)
+    (λ c κs. search needs)
     loop-holds
-    slice-read-quotient
-    shared-slice-read-quotient
+    (λ c. search needs)
+    (λ c. search needs)
     quotient-requires
-    slice-write-xs
-    add-i
+    (λ c. search needs)
+    (λ c. search needs)
     loop-less
     loop-again
     same-length

@@ -9,21 +9,6 @@ use Rattle.gf256.proofs.inverse.Tie as tie
 returns : tie.Need-returns
 returns c = cc inverse-zero
 
-logs-requires : tie.Need-logs-requires
-logs-requires c κs = search needs
-
-log-at-requires : tie.Need-log-at-requires
-log-at-requires c κs = search needs
-
-sub-n : tie.Need-sub-n
-sub-n c = search needs
-
-powers-requires : tie.Need-powers-requires
-powers-requires c κs = search needs
-
-power-at-requires : tie.Need-power-at-requires
-power-at-requires c κs = search needs
-
 returns-2 : tie.Need-returns-2
 returns-2 c =
     let a = c .before .before .before .before .before .before .before .args .a in
@@ -36,9 +21,9 @@ inverse-spec =
     tie.close
     (tie.spec
     returns
-    logs-requires
-    log-at-requires
-    sub-n
-    powers-requires
-    power-at-requires
+    (λ c κs. search needs)
+    (λ c κs. search needs)
+    (λ c. search needs)
+    (λ c κs. search needs)
+    (λ c κs. search needs)
     returns-2)

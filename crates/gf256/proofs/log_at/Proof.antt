@@ -19,9 +19,6 @@ module _ (c : tie.Start) where
   is-small : log (c .args .a) < 255
   is-small = log-lt (c .args .a) is-byte
 
-element-copy-out-result : tie.Need-element-copy-out-result
-element-copy-out-result c = search needs
-
 cast-result : tie.Need-cast-result
 cast-result c = omega (arith, is-log (c .before), is-small (c .before))
 
@@ -29,4 +26,4 @@ returns : tie.Need-returns
 returns c = (is-log (c .before), omega (arith, is-log (c .before), is-small (c .before)))
 
 pub log-at-spec : {M : Type 1} → statement M
-log-at-spec = tie.close (tie.spec element-copy-out-result cast-result returns)
+log-at-spec = tie.close (tie.spec (λ c. search needs) cast-result returns)

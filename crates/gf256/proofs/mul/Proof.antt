@@ -13,24 +13,6 @@ returns c = cc (zero-mul (c .before .args .b))
 returns-2 : tie.Need-returns-2
 returns-2 c = cc (mul-zero (c .before .before .args .a))
 
-logs-requires : tie.Need-logs-requires
-logs-requires c κs = search needs
-
-log-at-requires : tie.Need-log-at-requires
-log-at-requires c κs = search needs
-
-log-at-requires-2 : tie.Need-log-at-requires-2
-log-at-requires-2 c κs = search needs
-
-add-n : tie.Need-add-n
-add-n c = search needs
-
-powers-requires : tie.Need-powers-requires
-powers-requires c κs = search needs
-
-power-at-requires : tie.Need-power-at-requires
-power-at-requires c κs = search needs
-
 returns-3 : tie.Need-returns-3
 returns-3 c =
     let s = c .before .before .before .before .before .before .before .before .before .before in
@@ -46,10 +28,10 @@ mul-spec =
     (tie.spec
     returns
     returns-2
-    logs-requires
-    log-at-requires
-    log-at-requires-2
-    add-n
-    powers-requires
-    power-at-requires
+    (λ c κs. search needs)
+    (λ c κs. search needs)
+    (λ c κs. search needs)
+    (λ c. search needs)
+    (λ c κs. search needs)
+    (λ c κs. search needs)
     returns-3)

@@ -8,12 +8,9 @@ use Rattle.gf256.proofs.Tables.{table-at}
 use Rattle.gf256.proofs.power_at.Statement.{statement}
 use Rattle.gf256.proofs.power_at.Tie as tie
 
-element-copy-out-result : tie.Need-element-copy-out-result
-element-copy-out-result c = search needs
-
 returns : tie.Need-returns
 returns c =
     table-at power (c .before .pre) _ (omega arith) ∙ power-over (c .before .args .n)
 
 pub power-at-spec : {M : Type 1} → statement M
-power-at-spec = tie.close (tie.spec element-copy-out-result returns)
+power-at-spec = tie.close (tie.spec (λ c. search needs) returns)

@@ -17,14 +17,8 @@ Inv-loop xs log sum₀ i₀ sum i =
 abbrev μ-loop : tie.MeasureT-loop
 μ-loop xs log sum₀ i₀ sum i = length xs - i
 
-logs-requires : tie.Need-logs-requires Inv-loop μ-loop
-logs-requires c κs = search needs
-
 loop-holds : tie.Need-loop-holds Inv-loop μ-loop
 loop-holds c = (omega arith, omega arith, product-start (c .before .before .args .xs .now))
-
-shared-slice-read-x : tie.Need-shared-slice-read-x Inv-loop μ-loop
-shared-slice-read-x c = search needs
 
 returns : tie.Need-returns Inv-loop μ-loop
 returns c =
@@ -32,18 +26,6 @@ returns c =
     let xs = c .before .before .before .before .before .before .args .xs .now in
     sym (product-zero xs (l .sum) (l .i) (omega arith) (c .if1 .taken))
     ∙ l .inv .2
-
-log-at-requires : tie.Need-log-at-requires Inv-loop μ-loop
-log-at-requires c κs = search needs
-
-add-sum : tie.Need-add-sum Inv-loop μ-loop
-add-sum c = search needs
-
-add-i : tie.Need-add-i Inv-loop μ-loop
-add-i c = search needs
-
-loop-less : tie.Need-loop-less Inv-loop μ-loop
-loop-less c = search needs
 
 loop-again : tie.Need-loop-again Inv-loop μ-loop
 loop-again c =
@@ -58,12 +40,6 @@ loop-again c =
           ∙ product-step xs (l .sum) (l .i) (omega arith) p h ∙ l .inv .2,
     )
 
-powers-requires : tie.Need-powers-requires Inv-loop μ-loop
-powers-requires c κs = search needs
-
-power-at-requires : tie.Need-power-at-requires Inv-loop μ-loop
-power-at-requires c κs = search needs
-
 returns-2 : tie.Need-returns-2 Inv-loop μ-loop
 returns-2 c =
     let l = c .before .before .before .before .loop in
@@ -76,15 +52,15 @@ product-of-spec =
     (tie.spec
     Inv-loop
     μ-loop
-    logs-requires
+    (λ c κs. search needs)
     loop-holds
-    shared-slice-read-x
+    (λ c. search needs)
     returns
-    log-at-requires
-    add-sum
-    add-i
-    loop-less
+    (λ c κs. search needs)
+    (λ c. search needs)
+    (λ c. search needs)
+    (λ c. search needs)
     loop-again
-    powers-requires
-    power-at-requires
+    (λ c κs. search needs)
+    (λ c κs. search needs)
     returns-2)

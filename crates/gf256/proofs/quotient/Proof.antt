@@ -12,21 +12,6 @@ use Rattle.gf256.proofs.quotient.Tie as tie
 returns : tie.Need-returns
 returns c = cc (zero-mul (Field.inverse (c .before .args .b)))
 
-log-at-requires : tie.Need-log-at-requires
-log-at-requires c κs = search needs
-
-log-at-requires-2 : tie.Need-log-at-requires-2
-log-at-requires-2 c κs = search needs
-
-sub-n : tie.Need-sub-n
-sub-n c = search needs
-
-add-n : tie.Need-add-n
-add-n c = search needs
-
-power-at-requires : tie.Need-power-at-requires
-power-at-requires c κs = search needs
-
 returns-2 : tie.Need-returns-2
 returns-2 c =
     let s = c .before .before .before .before in
@@ -39,4 +24,4 @@ returns-2 c =
 pub quotient-spec : {M : Type 1} → statement M
 quotient-spec =
     tie.close
-    (tie.spec returns log-at-requires log-at-requires-2 sub-n add-n power-at-requires returns-2)
+    (tie.spec returns (λ c κs. search needs) (λ c κs. search needs) (λ c. search needs) (λ c. search needs) (λ c κs. search needs) returns-2)

@@ -7,9 +7,6 @@ use Rattle.document.proofs.Bounds.{A>0}
 use Rattle.half_pairs.proofs.joined_place.Statement.{statement}
 use Rattle.half_pairs.proofs.joined_place.Tie as tie
 
-div-m : tie.Need-div-m
-div-m c = search needs
-
 shared-slice-read-t6 : tie.Need-shared-slice-read-t6
 shared-slice-read-t6 c =
     let s = c .before .before in
@@ -20,11 +17,5 @@ cast-t7 c =
     let s = c .before .before in
     omega (arith, c .shared-slice-known .given (s .args .z / s .args .p .a))
 
-rem-t9 : tie.Need-rem-t9
-rem-t9 c = search needs
-
-returns : tie.Need-returns
-returns c = search needs
-
 pub joined-place-spec : {M : Type 1} → statement M
-joined-place-spec = tie.close (tie.spec div-m shared-slice-read-t6 cast-t7 rem-t9 returns)
+joined-place-spec = tie.close (tie.spec (λ c. search needs) shared-slice-read-t6 cast-t7 (λ c. search needs) (λ c. search needs))

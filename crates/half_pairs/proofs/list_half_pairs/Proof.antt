@@ -53,9 +53,6 @@ add-z c =
     let s = t .before .before .before .before .before .before in
     omega (arith, few s, t .loop-test .taken)
 
-loop-less : tie.Need-loop-less Inv-loop μ-loop
-loop-less c = search needs
-
 loop-again : tie.Need-loop-again Inv-loop μ-loop
 loop-again c =
     let w = c .before .before in
@@ -70,9 +67,6 @@ loop-again c =
           ∙ rising-next (l .z) P)
           (wrote-then zero-le (l .inv .2) (w .put-if .ensures)),
     )
-
-same-length : tie.Need-same-length Inv-loop μ-loop
-same-length c = search needs
 
 returns : tie.Need-returns Inv-loop μ-loop
 unfolding halfPairs
@@ -94,7 +88,7 @@ list-half-pairs-spec =
     is-half-pair-requires
     put-if-requires
     add-z
-    loop-less
+    (λ c. search needs)
     loop-again
-    same-length
+    (λ c. search needs)
     returns)

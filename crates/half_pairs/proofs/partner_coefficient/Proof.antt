@@ -42,12 +42,6 @@ returns c =
     let s = start j in
     coefficient-row (s .args .p) (s .args .nodes .now) (s .args .r) (s .args .y) (λ e. c .if1 .taken (row j ∙ e))
 
-rem-factor : tie.Need-rem-factor
-rem-factor c = search needs
-
-factor-requires : tie.Need-factor-requires
-factor-requires c κs = search needs
-
 module _ (s : tie.Start) where
   column : s .args .y / s .args .p .a < s .args .p .k
   column = div-lt-iff-lt-mul (A>0 (s .args .p) (s .pre .0 .0)) .1 (s .pre .0 .2)
@@ -86,9 +80,6 @@ shared-slice-read-mul c =
           ∙ weight-table-length (s .args .p) (s .pre .0 .0) (s .args .nodes .now) (s .pre .0 .1),
     )
 
-mul-requires : tie.Need-mul-requires
-mul-requires c κs = search needs
-
 returns-2 : tie.Need-returns-2
 returns-2 c =
     let f = c .before .before .before .before .before in
@@ -112,11 +103,11 @@ partner-coefficient-spec =
     (tie.spec
     joined-place-requires
     returns
-    rem-factor
-    factor-requires
+    (λ c. search needs)
+    (λ c κs. search needs)
     mul-mul
     div-mul
     add-mul
     shared-slice-read-mul
-    mul-requires
+    (λ c κs. search needs)
     returns-2)

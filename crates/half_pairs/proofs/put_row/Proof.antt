@@ -30,12 +30,6 @@ cast-if1 c =
     let s = c .before .before .before .before .before in
     omega (arith, c .shared-slice-known4 .given (s .args .j))
 
-fill-requires : tie.Need-fill-requires
-fill-requires c κs = search needs
-
-same-length : tie.Need-same-length
-same-length c = search needs
-
 returns : tie.Need-returns
 returns c =
     let f = c .before .before in
@@ -43,9 +37,6 @@ returns c =
     let s = t .before .before .before .before .before .before .before in
     f .fill .ensures ∙ ap (λ (m : ℕ). listed m (λ b. 0)) (s .pre .0 .2)
     ∙ row-named (s .args .p .k) (s .args .nodes .now) (s .args .j) (omega (arith, entry s, t .if1 .taken))
-
-cast-weights : tie.Need-cast-weights
-cast-weights c = search needs
 
 weights-requires : tie.Need-weights-requires
 weights-requires c κs =
@@ -61,9 +52,6 @@ weights-requires c κs =
       ),
     )
 
-same-length-2 : tie.Need-same-length-2
-same-length-2 c = search needs
-
 returns-2 : tie.Need-returns-2
 returns-2 c =
     let w = c .before .before in
@@ -78,10 +66,10 @@ put-row-spec =
     (tie.spec
     shared-slice-read-if1
     cast-if1
-    fill-requires
-    same-length
+    (λ c κs. search needs)
+    (λ c. search needs)
     returns
-    cast-weights
+    (λ c. search needs)
     weights-requires
-    same-length-2
+    (λ c. search needs)
     returns-2)

@@ -6,9 +6,6 @@ use Rattle.half_pairs.proofs.System.{halves-front, halves-fit}
 use Rattle.half_pairs.proofs.small_system.Statement.{statement}
 use Rattle.half_pairs.proofs.small_system.Tie as tie
 
-slice-aggregate-system-square : tie.Need-slice-aggregate-system-square
-slice-aggregate-system-square c = search needs
-
 array-share-prefix-halves : tie.Need-array-share-prefix-halves
 array-share-prefix-halves c =
     halves-fit (c .before .before .before .before .pre .2)
@@ -21,15 +18,12 @@ system-square-requires c κs =
     let s = c .before .before .before .before .before in
     ((s .pre .0, s .pre .1, s .pre .2 .table), halves-front (s .pre .2))
 
-returns : tie.Need-returns
-returns c = search needs
-
 pub small-system-spec : {M : Type 1} → statement M
 small-system-spec =
     tie.close
     (tie.spec
-    slice-aggregate-system-square
+    (λ c. search needs)
     array-share-prefix-halves
     slice-aggregate-system-square-2
     system-square-requires
-    returns)
+    (λ c. search needs))

@@ -9,19 +9,10 @@ use Rattle.ksets.proofs.count.Tie as tie
 returns : tie.Need-returns
 returns c = sym (sets-none (c .before .args .n) (c .before .args .k) (omega arith))
 
-row-of-requires : tie.Need-row-of-requires
-row-of-requires c κs = search needs
-
-mul-result : tie.Need-mul-result
-mul-result c = search needs
-
-array-read-result : tie.Need-array-read-result
-array-read-result c = search needs
-
 returns-2 : tie.Need-returns-2
 returns-2 c =
     let a = c .before .before .args in
     row-at (a .n) (a .k) (c .row-of .result) (c .row-of .ensures) (omega arith)
 
 pub count-spec : {M : Type 1} → statement M
-count-spec = tie.close (tie.spec returns row-of-requires mul-result array-read-result returns-2)
+count-spec = tie.close (tie.spec returns (λ c κs. search needs) (λ c. search needs) (λ c. search needs) returns-2)

@@ -17,9 +17,6 @@ Inv-loop row next₀ k₀ next k = (1 ≤ k) × (k ≤ 25) × Written (nextAt ro
 abbrev μ-loop : tie.MeasureT-loop
 μ-loop row next₀ k₀ next k = 25 - k
 
-array-write-next : tie.Need-array-write-next Inv-loop μ-loop
-array-write-next c = search needs
-
 loop-holds : tie.Need-loop-holds Inv-loop μ-loop
 loop-holds c =
     let row = c .args .t1 in
@@ -29,37 +26,10 @@ loop-holds c =
       written-more (nextAt row) 0 row row (written-none (nextAt row) row) (omega arith) 1 (next-first row),
     )
 
-mul-next : tie.Need-mul-next Inv-loop μ-loop
-mul-next c = search needs
-
-array-read-next : tie.Need-array-read-next Inv-loop μ-loop
-array-read-next c = search needs
-
-sub-next : tie.Need-sub-next Inv-loop μ-loop
-sub-next c = search needs
-
-mul-next-2 : tie.Need-mul-next-2 Inv-loop μ-loop
-mul-next-2 c = search needs
-
-array-read-next-2 : tie.Need-array-read-next-2 Inv-loop μ-loop
-array-read-next-2 c = search needs
-
 add-next : tie.Need-add-next Inv-loop μ-loop
 add-next c =
     let row = c .before .before .args .t1 in
     omega (arith, c .before .before .pre (c .before .loop .k), c .before .before .pre (c .before .loop .k - 1))
-
-mul-next-3 : tie.Need-mul-next-3 Inv-loop μ-loop
-mul-next-3 c = search needs
-
-array-write-next-2 : tie.Need-array-write-next-2 Inv-loop μ-loop
-array-write-next-2 c = search needs
-
-add-k : tie.Need-add-k Inv-loop μ-loop
-add-k c = search needs
-
-loop-less : tie.Need-loop-less Inv-loop μ-loop
-loop-less c = search needs
 
 loop-again : tie.Need-loop-again Inv-loop μ-loop
 loop-again c =
@@ -85,17 +55,17 @@ next-row-spec =
     (tie.spec
     Inv-loop
     μ-loop
-    array-write-next
+    (λ c. search needs)
     loop-holds
-    mul-next
-    array-read-next
-    sub-next
-    mul-next-2
-    array-read-next-2
+    (λ c. search needs)
+    (λ c. search needs)
+    (λ c. search needs)
+    (λ c. search needs)
+    (λ c. search needs)
     add-next
-    mul-next-3
-    array-write-next-2
-    add-k
-    loop-less
+    (λ c. search needs)
+    (λ c. search needs)
+    (λ c. search needs)
+    (λ c. search needs)
     loop-again
     returns)

@@ -19,19 +19,10 @@ abbrev μ-loop : tie.MeasureT-loop
 loop-holds : tie.Need-loop-holds Inv-loop μ-loop
 loop-holds c = (omega arith, full-end (c .args .n) (c .args .set .now))
 
-sub-x : tie.Need-sub-x Inv-loop μ-loop
-sub-x c = search needs
-
-shared-slice-read-x : tie.Need-shared-slice-read-x Inv-loop μ-loop
-shared-slice-read-x c = search needs
-
 cast-x : tie.Need-cast-x Inv-loop μ-loop
 cast-x c =
     let byte = c .shared-slice-known .given (c .before .before .loop .i - 1) in
     omega (arith, byte, c .before .before .before .good)
-
-sub-after : tie.Need-sub-after Inv-loop μ-loop
-sub-after c = search needs
 
 add-if1 : tie.Need-add-if1 Inv-loop μ-loop
 add-if1 c =
@@ -43,20 +34,11 @@ add-if1-2 c =
     let byte = c .shared-slice-known .given (c .before .before .loop .i - 1) in
     omega (arith, byte, c .before .before .before .good)
 
-sub-result : tie.Need-sub-result Inv-loop μ-loop
-sub-result c = search needs
-
 returns : tie.Need-returns Inv-loop μ-loop
 returns c =
     let l = c .before .before .before in
     let a = l .before .args in
     raised-here (a .n) (l .loop .i) (a .set .now) (omega arith) (l .loop .inv .0) (c .if1 .taken) (l .loop .inv .1)
-
-sub-i : tie.Need-sub-i Inv-loop μ-loop
-sub-i c = search needs
-
-loop-less : tie.Need-loop-less Inv-loop μ-loop
-loop-less c = search needs
 
 loop-again : tie.Need-loop-again Inv-loop μ-loop
 loop-again c =
@@ -79,15 +61,15 @@ raised-spec =
     Inv-loop
     μ-loop
     loop-holds
-    sub-x
-    shared-slice-read-x
+    (λ c. search needs)
+    (λ c. search needs)
     cast-x
-    sub-after
+    (λ c. search needs)
     add-if1
     add-if1-2
-    sub-result
+    (λ c. search needs)
     returns
-    sub-i
-    loop-less
+    (λ c. search needs)
+    (λ c. search needs)
     loop-again
     returns-2)

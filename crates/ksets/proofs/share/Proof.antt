@@ -13,13 +13,10 @@ mul-result c =
     let e = ap (λ (t : ℕ). t * c .args .k) (p .all) in
     omega (arith, e, share-fits (c .args .n) (c .args .k) (p .few) (p .node) (p .chosen))
 
-div-result : tie.Need-div-result
-div-result c = search needs
-
 returns : tie.Need-returns
 returns c =
     ap (λ (t : ℕ). t * c .args .k / c .args .n) (c .pre .all)
     ∙ share-is (c .args .n) (c .args .k) (c .pre .node) (c .pre .chosen)
 
 pub share-spec : {M : Type 1} → statement M
-share-spec = tie.close (tie.spec mul-result div-result returns)
+share-spec = tie.close (tie.spec mul-result (λ c. search needs) returns)

@@ -10,21 +10,6 @@ raised-requires c κs =
     let a = c .before .before .args in
     steps-free (a .n) (a .set .now) (c .before .before .pre)
 
-slice-read-x : tie.Need-slice-read-x
-slice-read-x c = search needs
-
-cast-x : tie.Need-cast-x
-cast-x c = search needs
-
-add-write-run : tie.Need-add-write-run
-add-write-run c = search needs
-
-write-run-requires : tie.Need-write-run-requires
-write-run-requires c κs = search needs
-
-same-length : tie.Need-same-length
-same-length c = search needs
-
 returns : tie.Need-returns
 returns c =
     let r = c .before .before .before .before .before in
@@ -36,9 +21,9 @@ step-spec =
     tie.close
     (tie.spec
     raised-requires
-    slice-read-x
-    cast-x
-    add-write-run
-    write-run-requires
-    same-length
+    (λ c. search needs)
+    (λ c. search needs)
+    (λ c. search needs)
+    (λ c κs. search needs)
+    (λ c. search needs)
     returns)

@@ -5,15 +5,6 @@ use borrow.Author.Needs.{needs}
 use Rattle.ksets.proofs.unrank.Statement.{statement}
 use Rattle.ksets.proofs.unrank.Tie as tie
 
-count-requires : tie.Need-count-requires
-count-requires c κs = search needs
-
-write-set-requires : tie.Need-write-set-requires
-write-set-requires c κs = search needs
-
-same-length : tie.Need-same-length
-same-length c = search needs
-
 returns : tie.Need-returns
 returns c =
     let s = c .before .before .before .before .before .before in
@@ -21,4 +12,4 @@ returns c =
     c .before .before .write-set .ensures ∙ wrote-whole (a .set .now) (a .n) (a .pos) (s .pre .1)
 
 pub unrank-spec : {M : Type 1} → statement M
-unrank-spec = tie.close (tie.spec count-requires write-set-requires same-length returns)
+unrank-spec = tie.close (tie.spec (λ c κs. search needs) (λ c κs. search needs) (λ c. search needs) returns)

@@ -17,31 +17,10 @@ Inv-loop set₀ at v m i₀ set i = (i ≤ m) × (length set ≡ length set₀) 
 abbrev μ-loop : tie.MeasureT-loop
 μ-loop set₀ at v m i₀ set i = m - i
 
-sub-m : tie.Need-sub-m Inv-loop μ-loop
-sub-m c = search needs
-
 loop-holds : tie.Need-loop-holds Inv-loop μ-loop
 loop-holds c =
     let a = c .args in
     (omega arith, refl, run-start (a .set .now) (a .at) (a .v) (length (a .set .now) - a .at))
-
-add-set : tie.Need-add-set Inv-loop μ-loop
-add-set c = search needs
-
-cast-set : tie.Need-cast-set Inv-loop μ-loop
-cast-set c = search needs
-
-add-set-2 : tie.Need-add-set-2 Inv-loop μ-loop
-add-set-2 c = search needs
-
-slice-write-set : tie.Need-slice-write-set Inv-loop μ-loop
-slice-write-set c = search needs
-
-add-i : tie.Need-add-i Inv-loop μ-loop
-add-i c = search needs
-
-loop-less : tie.Need-loop-less Inv-loop μ-loop
-loop-less c = search needs
 
 loop-again : tie.Need-loop-again Inv-loop μ-loop
 loop-again c =
@@ -69,14 +48,14 @@ write-run-spec =
     (tie.spec
     Inv-loop
     μ-loop
-    sub-m
+    (λ c. search needs)
     loop-holds
-    add-set
-    cast-set
-    add-set-2
-    slice-write-set
-    add-i
-    loop-less
+    (λ c. search needs)
+    (λ c. search needs)
+    (λ c. search needs)
+    (λ c. search needs)
+    (λ c. search needs)
+    (λ c. search needs)
     loop-again
     same-length
     returns)

@@ -4,18 +4,6 @@ use Rattle.lists.proofs.Put.{wrote-one, wrote-none}
 use Rattle.lists.proofs.put_if.Statement.{statement}
 use Rattle.lists.proofs.put_if.Tie as tie
 
-cast-out : tie.Need-cast-out
-cast-out c = search needs
-
-slice-write-out : tie.Need-slice-write-out
-slice-write-out c = search needs
-
-add-result : tie.Need-add-result
-add-result c = search needs
-
-same-length : tie.Need-same-length
-same-length c = search needs
-
 returns : tie.Need-returns
 returns c = rw (c .if1 .taken) (wrote-one _ _ _ (c .before .pre .0))
 
@@ -24,4 +12,4 @@ returns-2 c = rw (c .if1 .left) (wrote-none _ _)
 
 pub put-if-spec : {M : Type 1} → statement M
 put-if-spec =
-    tie.close (tie.spec cast-out slice-write-out add-result same-length returns returns-2)
+    tie.close (tie.spec (λ c. search needs) (λ c. search needs) (λ c. search needs) (λ c. search needs) returns returns-2)

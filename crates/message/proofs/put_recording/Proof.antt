@@ -5,18 +5,6 @@ use Rattle.document.specs.Message.{recordingBytes}
 use Rattle.message.proofs.put_recording.Statement.{statement}
 use Rattle.message.proofs.put_recording.Tie as tie
 
-four-bytes-requires : tie.Need-four-bytes-requires
-four-bytes-requires c κs = search needs
-
-slice-aggregate-put-bytes : tie.Need-slice-aggregate-put-bytes
-slice-aggregate-put-bytes c = search needs
-
-put-bytes-requires : tie.Need-put-bytes-requires
-put-bytes-requires c κs = search needs
-
-same-length : tie.Need-same-length
-same-length c = search needs
-
 returns : tie.Need-returns
 unfolding recordingBytes
 returns c =
@@ -26,4 +14,4 @@ returns c =
 pub put-recording-spec : {M : Type 1} → statement M
 put-recording-spec =
     tie.close
-    (tie.spec four-bytes-requires slice-aggregate-put-bytes put-bytes-requires same-length returns)
+    (tie.spec (λ c κs. search needs) (λ c. search needs) (λ c κs. search needs) (λ c. search needs) returns)

@@ -48,9 +48,6 @@ module _ (c : tie.After-place-at Inv-loop μ-loop) where
   read : c .place-at .result ≡ placeFrom places i
   read = c .place-at .ensures ∙ places-at places i below
 
-place-at-requires : tie.Need-place-at-requires Inv-loop μ-loop
-place-at-requires c κs = search needs
-
 put-strip-of-requires : tie.Need-put-strip-of-requires Inv-loop μ-loop
 put-strip-of-requires c κs =
     let q = c .before in
@@ -104,7 +101,7 @@ put-strips-spec =
     Inv-loop
     μ-loop
     loop-holds
-    place-at-requires
+    (λ c κs. search needs)
     put-strip-of-requires
     (λ c. search needs)
     (λ c. search needs)

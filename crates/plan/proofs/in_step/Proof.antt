@@ -5,26 +5,8 @@ use Rattle.document.specs.Plan.{isOwn, isDiagonal, isOffDiagonal}
 use Rattle.plan.proofs.in_step.Statement.{statement}
 use Rattle.plan.proofs.in_step.Tie as tie
 
-div-group : tie.Need-div-group
-div-group c = search needs
-
-div-group-2 : tie.Need-div-group-2
-div-group-2 c = search needs
-
-rem-column : tie.Need-rem-column
-rem-column c = search needs
-
-rem-column-2 : tie.Need-rem-column-2
-rem-column-2 c = search needs
-
 enum-told : tie.Need-enum-told
 enum-told c = search needs
-
-enum-told-2 : tie.Need-enum-told-2
-enum-told-2 c = search needs
-
-enum-told-3 : tie.Need-enum-told-3
-enum-told-3 c = search needs
 
 returns : tie.Need-returns
 unfolding inStep isOwn
@@ -54,13 +36,13 @@ pub in-step-spec : {M : Type 1} → statement M
 in-step-spec =
     tie.close
     (tie.spec
-    div-group
-    div-group-2
-    rem-column
-    rem-column-2
+    (λ c. search needs)
+    (λ c. search needs)
+    (λ c. search needs)
+    (λ c. search needs)
     enum-told
-    enum-told-2
-    enum-told-3
+    (λ c. search needs)
+    (λ c. search needs)
     returns
     returns-2
     returns-3

@@ -25,9 +25,6 @@ diagonal-end c =
     let few = rising-length (isDiagonal (s .args .p .a) (s .args .f)) (s .args .p .n) in
     omega (arith, few, own-end o, c .list-step2 .ensures .ends, s .pre .0 .shape .few-nodes)
 
-list-step-requires : tie.Need-list-step-requires
-list-step-requires c κs = search needs
-
 list-step-requires-2 : tie.Need-list-step-requires-2
 list-step-requires-2 c κs =
     let o = c .before .before .before in
@@ -55,9 +52,6 @@ add-result c =
     let o = c .before .before .before .before .before .before .before .before .before .before .before in
     omega (arith, own-end o, o .before .before .before .pre .0 .shape)
 
-same-length : tie.Need-same-length
-same-length c = search needs
-
 returns : tie.Need-returns
 unfolding inStep
 returns c =
@@ -72,9 +66,9 @@ pub list-nodes-spec : {M : Type 1} → statement M
 list-nodes-spec =
     tie.close
     (tie.spec
-    list-step-requires
+    (λ c κs. search needs)
     list-step-requires-2
     list-step-requires-3
     add-result
-    same-length
+    (λ c. search needs)
     returns)

@@ -26,21 +26,12 @@ loop-holds : tie.Need-loop-holds Inv-loop μ-loop
 unfolding rising
 loop-holds c = (zero-le, refl, wrote-none _ _)
 
-in-step-requires : tie.Need-in-step-requires Inv-loop μ-loop
-in-step-requires c κs = search needs
-
 put-if-requires : tie.Need-put-if-requires Inv-loop μ-loop
 put-if-requires c κs =
     let s = c .before .before .before .before .before in
     let l = c .before .before .before .loop in
     let few = rising-length (inStep (s .args .step) (s .args .p .a) (s .args .f)) (l .j) in
     (omega (arith, s .pre .1, l .inv .1, l .inv .2 .ends, few), omega (arith, s .pre .0 .shape .few-nodes))
-
-add-j : tie.Need-add-j Inv-loop μ-loop
-add-j c = search needs
-
-loop-less : tie.Need-loop-less Inv-loop μ-loop
-loop-less c = search needs
 
 loop-again : tie.Need-loop-again Inv-loop μ-loop
 loop-again c =
@@ -56,9 +47,6 @@ loop-again c =
           (wrote-then (omega (arith, s .pre .1)) (l .inv .2) (w .put-if .ensures)),
     )
 
-same-length : tie.Need-same-length Inv-loop μ-loop
-same-length c = search needs
-
 returns : tie.Need-returns Inv-loop μ-loop
 returns c =
     let l = c .before .loop in
@@ -73,10 +61,10 @@ list-step-spec =
     Inv-loop
     μ-loop
     loop-holds
-    in-step-requires
+    (λ c κs. search needs)
     put-if-requires
-    add-j
-    loop-less
+    (λ c. search needs)
+    (λ c. search needs)
     loop-again
-    same-length
+    (λ c. search needs)
     returns)

@@ -21,9 +21,6 @@ module _ (c : tie.After-price) where
 returns : tie.Need-returns
 returns c = node-refused _ _ _ (c .if1 .taken)
 
-price-requires : tie.Need-price-requires
-price-requires c κs = search needs
-
 mul-if2 : tie.Need-mul-if2
 mul-if2 c = omega (arith, c .price .ensures, start c .pre .shape)
 
@@ -40,9 +37,6 @@ put-plan-requires c κs =
       rw bytes-length (omega (arith, count r, c .before .if2 .left)),
     )
 
-same-length : tie.Need-same-length
-same-length c = search needs
-
 returns-3 : tie.Need-returns-3
 returns-3 c =
     let w = c .before .before in
@@ -55,9 +49,9 @@ plan-with-spec =
     tie.close
     (tie.spec
     returns
-    price-requires
+    (λ c κs. search needs)
     mul-if2
     returns-2
     put-plan-requires
-    same-length
+    (λ c. search needs)
     returns-3)

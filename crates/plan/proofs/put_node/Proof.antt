@@ -20,9 +20,6 @@ use Rattle.plan.proofs.put_node.Tie as tie
 within : (c : tie.Start) → Within (c .args .p) (rowAt (c .args .p .a) (c .args .f) (c .args .j))
 within c = record { node = c .pre .1; row = mod-lt (c .args .f .0) (A>0 (c .args .p) (c .pre .0)) }
 
-rem-t9 : tie.Need-rem-t9
-rem-t9 c = search needs
-
 put-place-requires : tie.Need-put-place-requires
 put-place-requires c κs =
     let s = c .before .before .before .before in
@@ -32,9 +29,6 @@ put-place-requires c κs =
       omega (arith, w .node, a .few-nodes),
       omega (arith, w .row, a .few-rows),
     )
-
-in-step-requires : tie.Need-in-step-requires
-in-step-requires c κs = search needs
 
 partner-requires : tie.Need-partner-requires
 partner-requires c κs =
@@ -70,9 +64,6 @@ put-place-requires-2 c κs =
       rw (c .partner .ensures) (omega (arith, w .row, a .few-rows)),
     )
 
-same-length : tie.Need-same-length
-same-length c = search needs
-
 returns : tie.Need-returns
 unfolding planBytes
 returns c =
@@ -82,9 +73,6 @@ returns c =
     (ap (λ (o : Place). planBytes (q t ∷ o ∷ [])) (r .partner .ensures) ∙ sym (ap planBytes (two t)))
     (wrote-then (omega (arith, fits t)) (t .before .before .before .before .put-place .ensures)
     (c .before .before .put-place2 .ensures))
-
-same-length-2 : tie.Need-same-length-2
-same-length-2 c = search needs
 
 returns-2 : tie.Need-returns-2
 unfolding inStep
@@ -96,12 +84,12 @@ pub put-node-spec : {M : Type 1} → statement M
 put-node-spec =
     tie.close
     (tie.spec
-    rem-t9
+    (λ c. search needs)
     put-place-requires
-    in-step-requires
+    (λ c κs. search needs)
     partner-requires
     put-place-requires-2
-    same-length
+    (λ c. search needs)
     returns
-    same-length-2
+    (λ c. search needs)
     returns-2)

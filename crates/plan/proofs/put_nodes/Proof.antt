@@ -25,9 +25,6 @@ loop-holds : tie.Need-loop-holds Inv-loop μ-loop
 unfolding placesOf planBytes
 loop-holds c = (zero-le, refl, wrote-none _ _)
 
-shared-slice-read-put-node : tie.Need-shared-slice-read-put-node Inv-loop μ-loop
-shared-slice-read-put-node c = search needs
-
 cast-put-node : tie.Need-cast-put-node Inv-loop μ-loop
 cast-put-node c = omega (arith, c .shared-slice-known2 .given (c .before .before .before .loop .i))
 
@@ -47,12 +44,6 @@ put-node-requires c κs =
       ),
     )
 
-add-i : tie.Need-add-i Inv-loop μ-loop
-add-i c = search needs
-
-loop-less : tie.Need-loop-less Inv-loop μ-loop
-loop-less c = search needs
-
 loop-again : tie.Need-loop-again Inv-loop μ-loop
 loop-again c =
     let w = c .before .before in
@@ -64,9 +55,6 @@ loop-again c =
       wrote-same (next-node (s .args .p .a) (s .args .f) (s .args .nodes .now) (l .i) h)
           (wrote-then zero-le (l .inv .2) (w .put-node .ensures)),
     )
-
-same-length : tie.Need-same-length Inv-loop μ-loop
-same-length c = search needs
 
 returns : tie.Need-returns Inv-loop μ-loop
 returns c =
@@ -84,11 +72,11 @@ put-nodes-spec =
     Inv-loop
     μ-loop
     loop-holds
-    shared-slice-read-put-node
+    (λ c. search needs)
     cast-put-node
     put-node-requires
-    add-i
-    loop-less
+    (λ c. search needs)
+    (λ c. search needs)
     loop-again
-    same-length
+    (λ c. search needs)
     returns)

@@ -11,26 +11,8 @@ use Rattle.document.specs.Plan.{planBytes}
 use Rattle.plan.proofs.put_place.Statement.{statement}
 use Rattle.plan.proofs.put_place.Tie as tie
 
-cast-out : tie.Need-cast-out
-cast-out c = search needs
-
-slice-write-out : tie.Need-slice-write-out
-slice-write-out c = search needs
-
-cast-out-2 : tie.Need-cast-out-2
-cast-out-2 c = search needs
-
-add-out : tie.Need-add-out
-add-out c = search needs
-
 slice-write-out-2 : tie.Need-slice-write-out-2
 slice-write-out-2 c = rw length-set (omega (arith, c .before .before .pre .0))
-
-add-result : tie.Need-add-result
-add-result c = search needs
-
-same-length : tie.Need-same-length
-same-length c = search needs
 
 two-stored : (d : List ℕ) (at a b : ℕ) → at + 2 ≤ length d
     → Wrote d at (a ∷ b ∷ []) (at + 2) (set (set d at a) (at + 1) b)
@@ -47,11 +29,11 @@ pub put-place-spec : {M : Type 1} → statement M
 put-place-spec =
     tie.close
     (tie.spec
-    cast-out
-    slice-write-out
-    cast-out-2
-    add-out
+    (λ c. search needs)
+    (λ c. search needs)
+    (λ c. search needs)
+    (λ c. search needs)
     slice-write-out-2
-    add-result
-    same-length
+    (λ c. search needs)
+    (λ c. search needs)
     returns)

@@ -39,12 +39,6 @@ module _ (c : tie.After-list-nodes) where
       ap (λ (js : List ℕ). planBytes (placesOf (start .args .p .a) (start .args .f) js)) (c .list-nodes .ensures .1)
       ∙ ap planBytes (plan-places (start .args .p) (start .pre .0) (start .args .f) (start .pre .1))
 
-slice-aggregate-list-nodes : tie.Need-slice-aggregate-list-nodes
-slice-aggregate-list-nodes c = search needs
-
-list-nodes-requires : tie.Need-list-nodes-requires
-list-nodes-requires c κs = search needs
-
 array-share-prefix-nodes : tie.Need-array-share-prefix-nodes
 array-share-prefix-nodes c = fits (c .before .before)
 
@@ -56,9 +50,6 @@ put-nodes-requires c κs =
     let w = c .before .before .before in
     (start w .pre .0, below w, omega (arith, ap length (bytes w), start w .pre .2))
 
-same-length : tie.Need-same-length
-same-length c = search needs
-
 returns : tie.Need-returns
 returns c =
     let r = c .before .before in
@@ -68,10 +59,10 @@ pub put-plan-spec : {M : Type 1} → statement M
 put-plan-spec =
     tie.close
     (tie.spec
-    slice-aggregate-list-nodes
-    list-nodes-requires
+    (λ c. search needs)
+    (λ c κs. search needs)
     array-share-prefix-nodes
     slice-aggregate-put-nodes
     put-nodes-requires
-    same-length
+    (λ c. search needs)
     returns)

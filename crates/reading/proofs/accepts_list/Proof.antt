@@ -56,9 +56,6 @@ add-lowest : tie.Need-add-lowest Inv-loop μ-loop
 add-lowest c =
     let k = c .before .before in omega (arith, k .shared-slice-known .given (k .before .before .loop .i))
 
-add-i : tie.Need-add-i Inv-loop μ-loop
-add-i c = search needs
-
 loop-less : tie.Need-loop-less Inv-loop μ-loop
 loop-less c = omega (arith, c .before .before .before .loop-test .taken)
 
@@ -97,7 +94,7 @@ accepts-list-spec =
     returns-2
     returns-3
     add-lowest
-    add-i
+    (λ c. search needs)
     loop-less
     loop-again
     returns-4)

@@ -54,9 +54,6 @@ module _ (s : tie.Start) where
   inside : z * p .s + p .s ≤ p .k * p .a * p .s
   inside = room z (p .k * p .a) (p .s) below
 
-shared-slice-read-z : tie.Need-shared-slice-read-z
-shared-slice-read-z c = search needs
-
 cast-z : tie.Need-cast-z
 cast-z c =
     let s = c .before .before .before .before .before in
@@ -77,12 +74,6 @@ module _ (c : tie.After-joined-place) where
 
   node : c .joined-place .result .node .0 ≡ named (nodes start) (z start / p start .a)
   node = ap (λ (q : Place). q .node .0) (c .joined-place .ensures)
-
-rem-factor : tie.Need-rem-factor
-rem-factor c = search needs
-
-factor-requires : tie.Need-factor-requires
-factor-requires c κs = search needs
 
 -- past the factor
 module _ (c : tie.After-factor) where
@@ -159,9 +150,6 @@ add-multiple-requires c κs =
     let s = begun (c .before .before .before) in
     omega (arith, slice-aggregate-add-multiple c, inside s, s .pre .1 .1)
 
-same-length : tie.Need-same-length
-same-length c = search needs
-
 returns : tie.Need-returns
 unfolding completedStrip
 returns c =
@@ -180,11 +168,11 @@ pub complete-strip-spec : {M : Type 1} → statement M
 complete-strip-spec =
     tie.close
     (tie.spec
-    shared-slice-read-z
+    (λ c. search needs)
     cast-z
     joined-place-requires
-    rem-factor
-    factor-requires
+    (λ c. search needs)
+    (λ c κs. search needs)
     array-borrow-prefix-u
     slice-aggregate-combine
     array-share-prefix-c
@@ -194,5 +182,5 @@ complete-strip-spec =
     array-borrow-prefix-u-2
     slice-aggregate-add-multiple
     add-multiple-requires
-    same-length
+    (λ c. search needs)
     returns)

@@ -19,9 +19,6 @@ use Rattle.reading.proofs.Partners.{strip-fits}
 use Rattle.reading.proofs.known_partner.Statement.{statement}
 use Rattle.reading.proofs.known_partner.Tie as tie
 
-joined-partner-requires : tie.Need-joined-partner-requires
-joined-partner-requires c κs = search needs
-
 -- past the partner of strip z
 module _ (c : tie.After-joined-partner) where
   abbrev start : tie.Start
@@ -100,12 +97,6 @@ mul-combine-2 c =
     let s = start (c .before .before .before .before) in
     omega (arith, column-bound (s .args .p) (s .pre .0 .0))
 
-sub-combine : tie.Need-sub-combine
-sub-combine c = search needs
-
-part-combine-start : tie.Need-part-combine-start
-part-combine-start c = search needs
-
 part-combine-end : tie.Need-part-combine-end
 part-combine-end c =
     let j = c .before .before .before .before in
@@ -129,9 +120,6 @@ combine-requires c κs =
           omega (arith, r, s .pre .1 .2);
     }
 
-same-length : tie.Need-same-length
-same-length c = search needs
-
 returns : tie.Need-returns
 returns c =
     let d = c .before .before in
@@ -144,14 +132,14 @@ pub known-partner-spec : {M : Type 1} → statement M
 known-partner-spec =
     tie.close
     (tie.spec
-    joined-partner-requires
+    (λ c κs. search needs)
     mul-from
     add-end
     mul-combine
     mul-combine-2
-    sub-combine
-    part-combine-start
+    (λ c. search needs)
+    (λ c. search needs)
     part-combine-end
     combine-requires
-    same-length
+    (λ c. search needs)
     returns)

@@ -126,9 +126,6 @@ copy-requires c κs =
     let w = c .before .before .before .before in
     omega (arith, own-inside w, start w .pre .1 .1)
 
-same-length : tie.Need-same-length
-same-length c = search needs
-
 returns : tie.Need-returns
 returns c =
     let w = c .before .before .before .before .before .before .before in
@@ -136,15 +133,6 @@ returns c =
     ∙ ap (stripAt (x w) (z w * p w .s)) (start w .pre .1 .1)
     ∙ known-stored (p w) (nodes w) (x w) (acc w) (start w .pre .0 .1) (small w) (z w) (start w .pre .0 .2)
     (omega (arith, c .before .before .before .before .if1 .taken, entry w))
-
-factor-requires : tie.Need-factor-requires
-factor-requires c κs = search needs
-
-determinant-requires : tie.Need-determinant-requires
-determinant-requires c κs = search needs
-
-inverse-requires : tie.Need-inverse-requires
-inverse-requires c κs = search needs
 
 -- the partner is read: its strip lies within the columns too
 module _ (c : tie.After-row) where
@@ -191,20 +179,8 @@ add-other-end c =
     let r = c .before .before .before .before .before in
     omega (arith, other-fits r, data-bound (p (placed r)) (acc (placed r)))
 
-sub-uncouple : tie.Need-sub-uncouple
-sub-uncouple c = search needs
-
-part-uncouple-start : tie.Need-part-uncouple-start
-part-uncouple-start c = search needs
-
 part-uncouple-end : tie.Need-part-uncouple-end
 part-uncouple-end c = own-inside (placed (c .before .before .before .before .before .before))
-
-sub-uncouple-2 : tie.Need-sub-uncouple-2
-sub-uncouple-2 c = search needs
-
-part-uncouple-start-2 : tie.Need-part-uncouple-start-2
-part-uncouple-start-2 c = search needs
 
 part-uncouple-end-2 : tie.Need-part-uncouple-end-2
 part-uncouple-end-2 c = other-inside (c .before .before .before .before .before .before .before)
@@ -219,9 +195,6 @@ uncouple-requires c κs =
       ap length (strip-part (x w) (z w * s) s (own-inside w)) ∙ strip-length (x w) (z w * s) s ∙ sym out,
       ap length (strip-part (x w) (from r) s (other-inside r)) ∙ strip-length (x w) (from r) s ∙ sym out,
     )
-
-same-length-2 : tie.Need-same-length-2
-same-length-2 c = search needs
 
 -- the factors and the inverse of the determinant
 module _ (c : tie.After-inverse) where
@@ -278,22 +251,22 @@ known-strip-spec =
     cast-at
     mul-own
     copy-requires
-    same-length
+    (λ c. search needs)
     returns
-    factor-requires
-    determinant-requires
-    inverse-requires
+    (λ c κs. search needs)
+    (λ c κs. search needs)
+    (λ c κs. search needs)
     mul-other
     add-other
     mul-other-2
     add-own-end
     add-other-end
-    sub-uncouple
-    part-uncouple-start
+    (λ c. search needs)
+    (λ c. search needs)
     part-uncouple-end
-    sub-uncouple-2
-    part-uncouple-start-2
+    (λ c. search needs)
+    (λ c. search needs)
     part-uncouple-end-2
     uncouple-requires
-    same-length-2
+    (λ c. search needs)
     returns-2)

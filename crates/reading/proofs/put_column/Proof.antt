@@ -84,9 +84,6 @@ copy-requires c κs =
     let s = start (t .before) in
     omega (arith, column s _ (t .if1 .taken), whole s, s .pre .1 .2)
 
-same-length : tie.Need-same-length
-same-length c = search needs
-
 returns : tie.Need-returns
 unfolding baseColumn
 returns c =
@@ -105,12 +102,6 @@ mul-from c = omega (arith, inside (start (c .before)))
 
 add-end : tie.Need-add-end
 add-end c = omega (arith, inside (start (c .before)))
-
-sub-combine : tie.Need-sub-combine
-sub-combine c = search needs
-
-part-combine-start : tie.Need-part-combine-start
-part-combine-start c = search needs
 
 part-combine-end : tie.Need-part-combine-end
 part-combine-end c =
@@ -133,9 +124,6 @@ combine-requires c κs =
       short = omega (arith, s .pre .1 .2, column-bound (s .args .p) (s .pre .0 .0));
       reach = λ q h. omega (arith, column s q (omega (arith, size, h)), whole s, s .pre .1 .2);
     }
-
-same-length-2 : tie.Need-same-length-2
-same-length-2 c = search needs
 
 returns-2 : tie.Need-returns-2
 unfolding baseColumn
@@ -160,13 +148,13 @@ put-column-spec =
     cast-at
     mul-copy
     copy-requires
-    same-length
+    (λ c. search needs)
     returns
     mul-from
     add-end
-    sub-combine
-    part-combine-start
+    (λ c. search needs)
+    (λ c. search needs)
     part-combine-end
     combine-requires
-    same-length-2
+    (λ c. search needs)
     returns-2)

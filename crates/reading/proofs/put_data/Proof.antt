@@ -26,13 +26,10 @@ put-data-in-requires c κs =
     let s = start (c .before) in
     (s .pre .0, (s .pre .1 .0, (s .pre .1 .1 .0, s .pre .1 .1 .1, sym (slice-aggregate-put-data-in c) ∙ s .pre .1 .1 .1)))
 
-same-length : tie.Need-same-length
-same-length c = search needs
-
 returns : tie.Need-returns
 returns c = c .before .before .before .put-data-in .ensures
 
 pub put-data-spec : {M : Type 1} → statement M
 put-data-spec =
     tie.close
-    (tie.spec array-borrow-prefix-y slice-aggregate-put-data-in put-data-in-requires same-length returns)
+    (tie.spec array-borrow-prefix-y slice-aggregate-put-data-in put-data-in-requires (λ c. search needs) returns)

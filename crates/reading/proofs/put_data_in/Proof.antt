@@ -40,9 +40,6 @@ mul-partners c =
     let s = c .before .before .before .before .before .before .before .before in
     omega (arith, few s, data-bound (p s) (s .pre .0 .0))
 
-known-strips-requires : tie.Need-known-strips-requires
-known-strips-requires c κs = search needs
-
 -- past the known strips
 module _ (c : tie.After-known-strips) where
   abbrev start : tie.Start
@@ -122,12 +119,6 @@ put-columns-requires c κs =
       ),
     )
 
-same-length : tie.Need-same-length
-same-length c = search needs
-
-same-length-2 : tie.Need-same-length-2
-same-length-2 c = search needs
-
 returns : tie.Need-returns
 unfolding dataBy
 returns c =
@@ -149,7 +140,7 @@ put-data-in-spec =
     tie.close
     (tie.spec
     mul-partners
-    known-strips-requires
+    (λ c κs. search needs)
     slice-relend-prefix-known-partners
     slice-aggregate-known-partners
     known-partners-requires
@@ -157,6 +148,6 @@ put-data-in-spec =
     slice-aggregate-complete
     complete-requires
     put-columns-requires
-    same-length
-    same-length-2
+    (λ c. search needs)
+    (λ c. search needs)
     returns)

@@ -19,9 +19,6 @@ module _ (c : tie.Else1) where
   listed-nodes : listAccepted (start .args .p .n) 0 (start .args .p .k) (start .args .nodes .now) ≡ true
   listed-nodes = sym (c .before .accepts-list .ensures) ∙ not-false _ (c .if1 .left)
 
-accepts-list-requires : tie.Need-accepts-list-requires
-accepts-list-requires c κs = search needs
-
 returns : tie.Need-returns
 returns c = list-refused _ _ _ _ (sym (c .before .accepts-list .ensures) ∙ not-true _ (c .if1 .taken))
 
@@ -46,9 +43,6 @@ read-from-requires c κs =
     let f = m .before .before .before in
     ((start f .pre, decides-list-accepted _ _ 0 _ .0 (listed-nodes f)), (m .if2 .left, o .if3 .left))
 
-same-length : tie.Need-same-length
-same-length c = search needs
-
 returns-4 : tie.Need-returns-4
 returns-4 c =
     let r = c .before .before in
@@ -60,12 +54,12 @@ pub read-with-spec : {M : Type 1} → statement M
 read-with-spec =
     tie.close
     (tie.spec
-    accepts-list-requires
+    (λ c κs. search needs)
     returns
     mul-size
     mul-size-2
     returns-2
     returns-3
     read-from-requires
-    same-length
+    (λ c. search needs)
     returns-4)

@@ -7,15 +7,6 @@ use Rattle.gf256.specs.Field.{quotientsOf}
 use Rattle.rebuild.proofs.divided_weights.Statement.{statement}
 use Rattle.rebuild.proofs.divided_weights.Tie as tie
 
-weights-requires : tie.Need-weights-requires
-weights-requires c κs = search needs
-
-divide-all-requires : tie.Need-divide-all-requires
-divide-all-requires c κs = search needs
-
-same-length : tie.Need-same-length
-same-length c = search needs
-
 returns : tie.Need-returns
 returns c =
     let d = c .before .before in
@@ -24,4 +15,4 @@ returns c =
     d .divide-all .ensures ∙ ap (λ (xs : List ℕ). quotientsOf xs (s .args .determinants .now)) (w .weights .ensures)
 
 pub divided-weights-spec : {M : Type 1} → statement M
-divided-weights-spec = tie.close (tie.spec weights-requires divide-all-requires same-length returns)
+divided-weights-spec = tie.close (tie.spec (λ c κs. search needs) (λ c κs. search needs) (λ c. search needs) returns)

@@ -100,9 +100,6 @@ add-copy c = omega (arith, here-within (c .before .before .before))
 copy-requires : tie.Need-copy-requires
 copy-requires c κs = let s = c .before .before .before in omega (arith, here-within s, s .pre .0 .2)
 
-in-step-requires : tie.Need-in-step-requires
-in-step-requires c κs = search needs
-
 add-from : tie.Need-add-from
 add-from c = omega (arith, few-places (s c), s c .pre .1 .1 .inside, two c)
 
@@ -114,21 +111,6 @@ add-from-2 c = omega (arith, next-within c)
 
 add-end : tie.Need-add-end
 add-end c = omega (arith, next-within (c .before))
-
-rem-c : tie.Need-rem-c
-rem-c c = search needs
-
-rem-l : tie.Need-rem-l
-rem-l c = search needs
-
-factor-requires : tie.Need-factor-requires
-factor-requires c κs = search needs
-
-sub-add-times : tie.Need-sub-add-times
-sub-add-times c = search needs
-
-part-add-times-start : tie.Need-part-add-times-start
-part-add-times-start c = search needs
 
 part-add-times-end : tie.Need-part-add-times-end
 part-add-times-end c = next-within (c .before .before .before .before .before .before)
@@ -142,9 +124,6 @@ add-result : tie.Need-add-result
 add-result c =
     let t = c .before .before .before .before .before .before .before .before .before .before in
     omega (arith, few-places (s t), s t .pre .1 .1 .inside, two t)
-
-same-length : tie.Need-same-length
-same-length c = search needs
 
 returns : tie.Need-returns
 returns c =
@@ -172,9 +151,6 @@ add-result-2 c =
     let b = start (c .before .before .before .before) in
     omega (arith, few-places b, b .pre .1 .1 .inside, single-place c)
 
-same-length-2 : tie.Need-same-length-2
-same-length-2 c = search needs
-
 returns-2 : tie.Need-returns-2
 returns-2 c =
     let k = c .before .before .before .before in
@@ -193,21 +169,21 @@ fold-strip-spec =
     mul-copy
     add-copy
     copy-requires
-    in-step-requires
+    (λ c κs. search needs)
     add-from
     mul-from
     add-from-2
     add-end
-    rem-c
-    rem-l
-    factor-requires
-    sub-add-times
-    part-add-times-start
+    (λ c. search needs)
+    (λ c. search needs)
+    (λ c κs. search needs)
+    (λ c. search needs)
+    (λ c. search needs)
     part-add-times-end
     add-times-requires
     add-result
-    same-length
+    (λ c. search needs)
     returns
     add-result-2
-    same-length-2
+    (λ c. search needs)
     returns-2)

@@ -63,9 +63,6 @@ part-fold-strip-start c = omega arith
 part-fold-strip-end : tie.Need-part-fold-strip-end Inv-loop μ-loop
 part-fold-strip-end c = fits c
 
-shared-slice-read-fold-strip : tie.Need-shared-slice-read-fold-strip Inv-loop μ-loop
-shared-slice-read-fold-strip c = search needs
-
 cast-fold-strip : tie.Need-cast-fold-strip Inv-loop μ-loop
 cast-fold-strip c = omega (arith, c .shared-slice-known3 .given (c .before .before .before .loop .i))
 
@@ -82,9 +79,6 @@ fold-strip-requires c κs =
             (t .loop-test .taken)),
       ),
     )
-
-add-i : tie.Need-add-i Inv-loop μ-loop
-add-i c = search needs
 
 loop-less : tie.Need-loop-less Inv-loop μ-loop
 loop-less c = omega (arith, c .before .before .before .before .before .loop-test .taken)
@@ -131,10 +125,10 @@ fold-strips-spec =
     sub-fold-strip
     part-fold-strip-start
     part-fold-strip-end
-    shared-slice-read-fold-strip
+    (λ c. search needs)
     cast-fold-strip
     fold-strip-requires
-    add-i
+    (λ c. search needs)
     loop-less
     loop-again
     same-length

@@ -6,17 +6,8 @@ use Rattle.document.proofs.Bytes.{number-inv}
 use Rattle.rebuild.proofs.own_scale.Statement.{statement}
 use Rattle.rebuild.proofs.own_scale.Tie as tie
 
-rem-c : tie.Need-rem-c
-rem-c c = search needs
-
-factor-requires : tie.Need-factor-requires
-factor-requires c κs = search needs
-
-inverse-requires : tie.Need-inverse-requires
-inverse-requires c κs = search needs
-
 returns : tie.Need-returns
 returns c = c .inverse .ensures ∙ ap inverse (c .before .factor .ensures) ∙ sym (number-inv _)
 
 pub own-scale-spec : {M : Type 1} → statement M
-own-scale-spec = tie.close (tie.spec rem-c factor-requires inverse-requires returns)
+own-scale-spec = tie.close (tie.spec (λ c. search needs) (λ c κs. search needs) (λ c κs. search needs) returns)

@@ -20,41 +20,17 @@ Inv-loop p nodes out₀ c q₀ out q =
 abbrev μ-loop : tie.MeasureT-loop
 μ-loop p nodes out₀ c q₀ out q = length out₀ - q
 
-rem-c : tie.Need-rem-c Inv-loop μ-loop
-rem-c c = search needs
-
 loop-holds : tie.Need-loop-holds Inv-loop μ-loop
 loop-holds c = written-none _ _
 
-shared-slice-read-determinant : tie.Need-shared-slice-read-determinant Inv-loop μ-loop
-shared-slice-read-determinant c = search needs
-
 cast-determinant : tie.Need-cast-determinant Inv-loop μ-loop
 cast-determinant c = omega (arith, c .shared-slice-known2 .given (c .before .before .loop .q))
-
-rem-determinant : tie.Need-rem-determinant Inv-loop μ-loop
-rem-determinant c = search needs
-
-determinant-requires : tie.Need-determinant-requires Inv-loop μ-loop
-determinant-requires c κs = search needs
-
-slice-write-out : tie.Need-slice-write-out Inv-loop μ-loop
-slice-write-out c = search needs
-
-add-q : tie.Need-add-q Inv-loop μ-loop
-add-q c = search needs
-
-loop-less : tie.Need-loop-less Inv-loop μ-loop
-loop-less c = search needs
 
 loop-again : tie.Need-loop-again Inv-loop μ-loop
 loop-again c =
     let l = c .before .before .before .before .loop in
     let s = c .before .before .before .before .before .before .before .before .before in
     written-more _ (l .q) (s .args .out .now) (l .out) (l .inv) (omega arith) _ (c .determinant .ensures)
-
-same-length : tie.Need-same-length Inv-loop μ-loop
-same-length c = search needs
 
 returns : tie.Need-returns Inv-loop μ-loop
 unfolding determinantsOf
@@ -71,15 +47,15 @@ pair-determinants-spec =
     (tie.spec
     Inv-loop
     μ-loop
-    rem-c
+    (λ c. search needs)
     loop-holds
-    shared-slice-read-determinant
+    (λ c. search needs)
     cast-determinant
-    rem-determinant
-    determinant-requires
-    slice-write-out
-    add-q
-    loop-less
+    (λ c. search needs)
+    (λ c κs. search needs)
+    (λ c. search needs)
+    (λ c. search needs)
+    (λ c. search needs)
     loop-again
-    same-length
+    (λ c. search needs)
     returns)

@@ -56,17 +56,11 @@ below s =
     let within = group-within (s .args .p) acc (s .args .f .0) (s .pre .0 .1) in
     omega (arith, within, s .pre .0 .2, acc .shape .few-nodes)
 
-div-position-of : tie.Need-div-position-of
-div-position-of c = search needs
-
 mul-position-of : tie.Need-mul-position-of
 mul-position-of c = omega (arith, below (start (c .before .before .before .before)))
 
 add-position-of : tie.Need-add-position-of
 add-position-of c = omega (arith, below (start (c .before .before .before .before)))
-
-position-of-requires : tie.Need-position-of-requires
-position-of-requires c κs = search needs
 
 array-share-prefix-coefficients : tie.Need-array-share-prefix-coefficients
 array-share-prefix-coefficients c =
@@ -90,9 +84,6 @@ sum-row-requires c κs =
       ),
     )
 
-same-length : tie.Need-same-length
-same-length c = search needs
-
 returns : tie.Need-returns
 unfolding rowOf
 returns c =
@@ -111,12 +102,12 @@ put-row-spec =
     array-borrow-prefix-coefficients
     slice-aggregate-row-coefficients
     row-coefficients-requires
-    div-position-of
+    (λ c. search needs)
     mul-position-of
     add-position-of
-    position-of-requires
+    (λ c κs. search needs)
     array-share-prefix-coefficients
     slice-aggregate-sum-row
     sum-row-requires
-    same-length
+    (λ c. search needs)
     returns)

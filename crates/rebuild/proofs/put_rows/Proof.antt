@@ -161,9 +161,6 @@ put-row-requires c κs =
       ),
     )
 
-add-i : tie.Need-add-i Inv-loop μ-loop
-add-i c = search needs
-
 loop-less : tie.Need-loop-less Inv-loop μ-loop
 loop-less c = omega (arith, c .before .before .before .before .before .before .loop-test .taken)
 
@@ -215,7 +212,7 @@ put-rows-spec =
     array-share-prefix-determinants
     slice-aggregate-put-row-2
     put-row-requires
-    add-i
+    (λ c. search needs)
     loop-less
     loop-again
     same-length

@@ -48,12 +48,6 @@ module _ (c : tie.After-list-nodes) where
       mul-le-mul {n₁ = count} {m₁ = p .s} {n₂ = 24} {m₂ = 512}
       (omega (arith, size, acc .shape .enough-parity, acc .shape .few-nodes, acc .shape .some-parity)) (acc .short)
 
-slice-aggregate-list-nodes : tie.Need-slice-aggregate-list-nodes
-slice-aggregate-list-nodes c = search needs
-
-list-nodes-requires : tie.Need-list-nodes-requires
-list-nodes-requires c κs = search needs
-
 mul-size : tie.Need-mul-size
 mul-size c = omega (arith, strips-fit (c .before .before))
 
@@ -127,9 +121,6 @@ rebuild-rows-requires c κs =
       ),
     )
 
-same-length : tie.Need-same-length
-same-length c = search needs
-
 returns : tie.Need-returns
 unfolding rebuiltOf
 returns c =
@@ -147,8 +138,8 @@ pub rebuild-column-spec : {M : Type 1} → statement M
 rebuild-column-spec =
     tie.close
     (tie.spec
-    slice-aggregate-list-nodes
-    list-nodes-requires
+    (λ c. search needs)
+    (λ c κs. search needs)
     mul-size
     array-borrow-prefix-folded
     slice-aggregate-fold-strips
@@ -160,5 +151,5 @@ rebuild-column-spec =
     array-share-prefix-nodes-2
     slice-aggregate-rebuild-rows-2
     rebuild-rows-requires
-    same-length
+    (λ c. search needs)
     returns)

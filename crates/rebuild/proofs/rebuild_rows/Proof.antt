@@ -33,9 +33,6 @@ module _ (s : tie.Start) where
   chosen : take (length nodes - (A - 1)) (drop (A - 1) nodes) ≡ chosenOver k (walkOf (s .args .p) (s .args .f))
   chosen = chosen-part (s .args .p) (s .pre .0 .0) (s .args .f) (s .pre .0 .1) nodes (s .pre .0 .2)
 
-sub-own : tie.Need-sub-own
-sub-own c = search needs
-
 slice-aggregate-put-rows : tie.Need-slice-aggregate-put-rows
 slice-aggregate-put-rows c =
     let s = c .before .before .before .before .before .before in
@@ -46,9 +43,6 @@ sub-put-rows c = omega (arith, count (c .before .before .before .before .before 
 
 part-put-rows-start : tie.Need-part-put-rows-start
 part-put-rows-start c = omega (arith, count (c .before .before .before .before .before .before))
-
-part-put-rows-end : tie.Need-part-put-rows-end
-part-put-rows-end c = search needs
 
 put-rows-requires : tie.Need-put-rows-requires
 put-rows-requires c κs =
@@ -73,9 +67,6 @@ put-rows-requires c κs =
       ),
     )
 
-same-length : tie.Need-same-length
-same-length c = search needs
-
 returns : tie.Need-returns
 returns c =
     let r = c .before .before in
@@ -87,11 +78,11 @@ pub rebuild-rows-spec : {M : Type 1} → statement M
 rebuild-rows-spec =
     tie.close
     (tie.spec
-    sub-own
+    (λ c. search needs)
     slice-aggregate-put-rows
     sub-put-rows
     part-put-rows-start
-    part-put-rows-end
+    (λ c. search needs)
     put-rows-requires
-    same-length
+    (λ c. search needs)
     returns)

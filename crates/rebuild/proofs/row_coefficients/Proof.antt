@@ -25,9 +25,6 @@ below s =
     let within = group-within p acc (s .args .f .0) (s .pre .0 .1) in
     omega (arith, within, s .pre .0 .2, acc .shape .few-nodes)
 
-div-at : tie.Need-div-at
-div-at c = search needs
-
 mul-at : tie.Need-mul-at
 mul-at c = omega (arith, below (c .before .before .before .before .before .before .before))
 
@@ -81,9 +78,6 @@ module _ (c : tie.After-divided-weights) where
   lent : take k (c .divided-weights .last .1 .1 .1 .1 .0 ++ drop k (replicate 24 0)) ≡ divided
   lent = front (c .divided-weights .last .1 .1 .1 .1 .0) _ written ∙ shares
 
-scale-requires : tie.Need-scale-requires
-scale-requires c κs = search needs
-
 array-share-prefix-w : tie.Need-array-share-prefix-w
 array-share-prefix-w c =
     let d = c .before .before .before in
@@ -96,9 +90,6 @@ put-multiple-requires : tie.Need-put-multiple-requires
 put-multiple-requires c κs =
     let s = start (c .before .before .before .before) in
     s .pre .1 .1 .1 ∙ slice-aggregate-put-multiple c
-
-same-length : tie.Need-same-length
-same-length c = search needs
 
 returns : tie.Need-returns
 returns c =
@@ -113,16 +104,16 @@ pub row-coefficients-spec : {M : Type 1} → statement M
 row-coefficients-spec =
     tie.close
     (tie.spec
-    div-at
+    (λ c. search needs)
     mul-at
     add-at
     cast-divided-weights
     array-borrow-prefix-w
     slice-aggregate-divided-weights
     divided-weights-requires
-    scale-requires
+    (λ c κs. search needs)
     array-share-prefix-w
     slice-aggregate-put-multiple
     put-multiple-requires
-    same-length
+    (λ c. search needs)
     returns)

@@ -6,17 +6,8 @@ use Rattle.rebuild.proofs.Factors.{scale-lost, scale-other}
 use Rattle.rebuild.proofs.scale.Statement.{statement}
 use Rattle.rebuild.proofs.scale.Tie as tie
 
-rem-c : tie.Need-rem-c
-rem-c c = search needs
-
 returns : tie.Need-returns
 returns c = let s = c .before .before .before in scale-lost (s .args .p) (s .args .f) (s .args .i) (c .if1 .taken)
-
-own-scale-requires : tie.Need-own-scale-requires
-own-scale-requires c κs = search needs
-
-factor-requires : tie.Need-factor-requires
-factor-requires c κs = search needs
 
 returns-2 : tie.Need-returns-2
 unfolding _⊕_
@@ -26,4 +17,4 @@ returns-2 c =
     ∙ scale-other (s .args .p) (s .args .f) (s .args .i) (c .before .before .if1 .left)
 
 pub scale-spec : {M : Type 1} → statement M
-scale-spec = tie.close (tie.spec rem-c returns own-scale-requires factor-requires returns-2)
+scale-spec = tie.close (tie.spec (λ c. search needs) returns (λ c κs. search needs) (λ c κs. search needs) returns-2)

@@ -60,12 +60,6 @@ module _ (c : tie.Then1) where
       ap (λ (m : ℕ). take m (drop from (start .args .folded .now))) e
       ∙ strip-lent (start .args .folded .now) from (p .s) inside
 
-sub-combine : tie.Need-sub-combine
-sub-combine c = search needs
-
-mul-combine : tie.Need-mul-combine
-mul-combine c = search needs
-
 combine-requires : tie.Need-combine-requires
 combine-requires c κs =
     let s = c .before .before .before .before .before in
@@ -79,23 +73,11 @@ combine-requires c κs =
           omega (arith, r, s .pre .0 .1, s .pre .1 .0);
     }
 
-rem-if1 : tie.Need-rem-if1
-rem-if1 c = search needs
-
 mul-from : tie.Need-mul-from
 mul-from c = omega (arith, bound c)
 
 add-end : tie.Need-add-end
 add-end c = omega (arith, bound c)
-
-own-scale-requires : tie.Need-own-scale-requires
-own-scale-requires c κs = search needs
-
-sub-add-times : tie.Need-sub-add-times
-sub-add-times c = search needs
-
-part-add-times-start : tie.Need-part-add-times-start
-part-add-times-start c = search needs
 
 part-add-times-end : tie.Need-part-add-times-end
 part-add-times-end c = inside (c .before .before)
@@ -106,9 +88,6 @@ add-times-requires c κs =
     let w = t .before .before .before .before .before in
     (ap length (lent t) ∙ strip-length _ _ _ ∙ sym (size w), omega (arith, size w, given w .pre .0 .0 .short))
 
-same-length : tie.Need-same-length
-same-length c = search needs
-
 returns : tie.Need-returns
 returns c =
     let t = c .before .before .before .before .before .before in
@@ -117,9 +96,6 @@ returns c =
     ∙ row-other (s .args .p) (s .args .f) (s .args .i) (s .args .own) (s .args .coefficients .now)
     (s .args .folded .now) (summed (t .before .before .before .before .before)) (lent t)
     (c .before .before .before .before .before .own-scale .ensures) (t .if1 .taken)
-
-same-length-2 : tie.Need-same-length-2
-same-length-2 c = search needs
 
 returns-2 : tie.Need-returns-2
 returns-2 c =
@@ -131,18 +107,18 @@ pub sum-row-spec : {M : Type 1} → statement M
 sum-row-spec =
     tie.close
     (tie.spec
-    sub-combine
-    mul-combine
+    (λ c. search needs)
+    (λ c. search needs)
     combine-requires
-    rem-if1
+    (λ c. search needs)
     mul-from
     add-end
-    own-scale-requires
-    sub-add-times
-    part-add-times-start
+    (λ c κs. search needs)
+    (λ c. search needs)
+    (λ c. search needs)
     part-add-times-end
     add-times-requires
-    same-length
+    (λ c. search needs)
     returns
-    same-length-2
+    (λ c. search needs)
     returns-2)

@@ -7,12 +7,6 @@ use borrow.Author.Needs.{needs}
 use Rattle.rebuild_answer.proofs.byte_in.Statement.{statement}
 use Rattle.rebuild_answer.proofs.byte_in.Tie as tie
 
-shared-slice-read-result : tie.Need-shared-slice-read-result
-shared-slice-read-result c = search needs
-
-returns : tie.Need-returns
-returns c = search needs
-
 returns-2 : tie.Need-returns-2
 returns-2 c =
     let s = c .before in
@@ -20,4 +14,4 @@ returns-2 c =
     sym (List·getD-eq-default (s .args .input .now) 0 end)
 
 pub byte-in-spec : {M : Type 1} → statement M
-byte-in-spec = tie.close (tie.spec shared-slice-read-result returns returns-2)
+byte-in-spec = tie.close (tie.spec (λ c. search needs) (λ c. search needs) returns-2)

@@ -13,17 +13,11 @@ use Rattle.rebuild_answer.proofs.Answers.{column-answered, line-answere
 use Rattle.rebuild_answer.proofs.put_answer.Statement.{statement}
 use Rattle.rebuild_answer.proofs.put_answer.Tie as tie
 
-numbers-requires : tie.Need-numbers-requires
-numbers-requires c κs = search needs
-
 mul-least : tie.Need-mul-least
 mul-least c =
     let n = c .before .numbers in
     let bound : n .result .a * n .result .s ≤ 255 * 65535 = mul-le-mul (n .ensures .1) (n .ensures .2) in
     omega arith
-
-least-requires : tie.Need-least-requires
-least-requires c κs = search needs
 
 slice-relend-prefix-rebuild-input : tie.Need-slice-relend-prefix-rebuild-input
 slice-relend-prefix-rebuild-input c = search needs
@@ -56,14 +50,8 @@ module _ (r : tie.After-rebuild-input) where
       length-front (start .args .out .now) (r .rebuild-input .last .1 .1 .0) (least .least .result)
       (r .rebuild-input .kept .1 .1 .0)
 
-rebuild-input-requires : tie.Need-rebuild-input-requires
-rebuild-input-requires c κs = search needs
-
 enum-told : tie.Need-enum-told
 enum-told c = search needs
-
-enum-known-outcome : tie.Need-enum-known-outcome
-enum-known-outcome c = search needs
 
 put-line-requires : tie.Need-put-line-requires
 put-line-requires c κs =
@@ -73,17 +61,11 @@ put-line-requires c κs =
       index-small _ _ (same r) _ (lent r) (r .rebuild-input .ensures) (o .outcome .given .1),
     )
 
-same-length : tie.Need-same-length
-same-length c = search needs
-
 returns : tie.Need-returns
 returns c =
     let r = c .before .before .before .before in
     column-answered _ _ (same r) _ (lent r) (r .rebuild-input .ensures) (c .enum-told .given .1) _ _
     (r .rebuild-input .kept .1 .1 .0 ∙ fits r)
-
-same-length-2 : tie.Need-same-length-2
-same-length-2 c = search needs
 
 returns-2 : tie.Need-returns-2
 returns-2 c =
@@ -97,16 +79,16 @@ pub put-answer-spec : {M : Type 1} → statement M
 put-answer-spec =
     tie.close
     (tie.spec
-    numbers-requires
+    (λ c κs. search needs)
     mul-least
-    least-requires
+    (λ c κs. search needs)
     slice-relend-prefix-rebuild-input
     slice-aggregate-rebuild-input
-    rebuild-input-requires
+    (λ c κs. search needs)
     enum-told
-    enum-known-outcome
+    (λ c. search needs)
     put-line-requires
-    same-length
+    (λ c. search needs)
     returns
-    same-length-2
+    (λ c. search needs)
     returns-2)

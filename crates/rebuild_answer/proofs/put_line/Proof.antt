@@ -17,25 +17,10 @@ index-end v =
     let e : v .put-number2 .result ≤ w .put-number .result + 4 + 2 = number-ends atText _ (v .put-number2 .ensures) in
     omega (arith, number-end w)
 
-slice-aggregate-put-number : tie.Need-slice-aggregate-put-number
-slice-aggregate-put-number c = search needs
-
-number-requires : tie.Need-number-requires
-number-requires c κs = search needs
-
-cast-put-number : tie.Need-cast-put-number
-cast-put-number c = search needs
-
 put-number-requires : tie.Need-put-number-requires
 put-number-requires c κs =
     let s = c .before .before .before .before in
     (omega (arith, s .pre .0), omega (arith, c .number .ensures, number-bound (s .args .r)))
-
-slice-aggregate-put-number-2 : tie.Need-slice-aggregate-put-number-2
-slice-aggregate-put-number-2 c = search needs
-
-index-requires : tie.Need-index-requires
-index-requires c κs = search needs
 
 put-number-requires-2 : tie.Need-put-number-requires-2
 put-number-requires-2 c κs =
@@ -43,18 +28,12 @@ put-number-requires-2 c κs =
     let s = w .before .before .before .before .before in
     (omega (arith, number-end w, w .put-number .kept .0, s .pre .0), omega (arith, c .index .ensures, s .pre .1))
 
-slice-aggregate-put-bytes : tie.Need-slice-aggregate-put-bytes
-slice-aggregate-put-bytes c = search needs
-
 put-bytes-requires : tie.Need-put-bytes-requires
 put-bytes-requires c κs =
     let v = c .before .before .before .before in
     let w = v .before .before .before .before .before .before in
     let s = w .before .before .before .before .before in
     omega (arith, index-end v, v .put-number2 .kept .0, w .put-number .kept .0, s .pre .0)
-
-same-length : tie.Need-same-length
-same-length c = search needs
 
 returns : tie.Need-returns
 returns c =
@@ -68,14 +47,14 @@ pub put-line-spec : {M : Type 1} → statement M
 put-line-spec =
     tie.close
     (tie.spec
-    slice-aggregate-put-number
-    number-requires
-    cast-put-number
+    (λ c. search needs)
+    (λ c κs. search needs)
+    (λ c. search needs)
     put-number-requires
-    slice-aggregate-put-number-2
-    index-requires
+    (λ c. search needs)
+    (λ c κs. search needs)
     put-number-requires-2
-    slice-aggregate-put-bytes
+    (λ c. search needs)
     put-bytes-requires
-    same-length
+    (λ c. search needs)
     returns)

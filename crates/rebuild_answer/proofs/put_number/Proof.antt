@@ -5,15 +5,6 @@ use Rattle.lists.proofs.Put.{wrote-then}
 use Rattle.rebuild_answer.proofs.put_number.Statement.{statement}
 use Rattle.rebuild_answer.proofs.put_number.Tie as tie
 
-put-bytes-requires : tie.Need-put-bytes-requires
-put-bytes-requires c κs = search needs
-
-put-decimal-requires : tie.Need-put-decimal-requires
-put-decimal-requires c κs = search needs
-
-same-length : tie.Need-same-length
-same-length c = search needs
-
 returns : tie.Need-returns
 returns c =
     let d = c .before .before in
@@ -21,4 +12,4 @@ returns c =
     wrote-then (omega (arith, t .before .before .before .before .pre)) (t .put-bytes .ensures) (d .put-decimal .ensures)
 
 pub put-number-spec : {M : Type 1} → statement M
-put-number-spec = tie.close (tie.spec put-bytes-requires put-decimal-requires same-length returns)
+put-number-spec = tie.close (tie.spec (λ c κs. search needs) (λ c κs. search needs) (λ c. search needs) returns)

@@ -33,9 +33,6 @@ loop-again c =
     let k = c .before .before in
     (omega arith, length-set (k .loop .long) (k .loop .i) _ ∙ k .loop .inv .1)
 
-returns : tie.Need-returns Inv-loop μ-loop
-returns c = search needs
-
 pub longer-spec : {M : Type 1} → statement M
 longer-spec =
     tie.close
@@ -48,4 +45,4 @@ longer-spec =
     add-i
     loop-less
     loop-again
-    returns)
+    (λ c. search needs))

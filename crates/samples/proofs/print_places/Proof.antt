@@ -30,9 +30,6 @@ add-print-place c = omega arith
 shared-slice-read-print-place-2 : tie.Need-shared-slice-read-print-place-2 Inv-loop μ-loop
 shared-slice-read-print-place-2 c = omega arith
 
-print-place-requires : tie.Need-print-place-requires Inv-loop μ-loop
-print-place-requires c κs = search needs
-
 add-i : tie.Need-add-i Inv-loop μ-loop
 add-i c = omega arith
 
@@ -41,9 +38,6 @@ loop-less c = omega arith
 
 loop-again : tie.Need-loop-again Inv-loop μ-loop
 loop-again c = omega arith
-
-returns : tie.Need-returns Inv-loop μ-loop
-returns c = search needs
 
 pub print-places-spec : {M : Type 1} → statement M
 print-places-spec =
@@ -57,8 +51,8 @@ print-places-spec =
     mul-print-place-2
     add-print-place
     shared-slice-read-print-place-2
-    print-place-requires
+    (λ c κs. search needs)
     add-i
     loop-less
     loop-again
-    returns)
+    (λ c. search needs))

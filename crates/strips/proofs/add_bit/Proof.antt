@@ -14,12 +14,6 @@ returns c =
     let e : g .y % 2 ≡ 0 = omega arith in
     sym (ap (λ (d : ℕ). addedScaled d (g .at) (g .strip .now) (g .x .now)) e ∙ added-zero _ _ _)
 
-add-requires : tie.Need-add-requires
-add-requires c κs = search needs
-
-same-length : tie.Need-same-length
-same-length c = search needs
-
 returns-2 : tie.Need-returns-2
 returns-2 c =
     let k = c .before .before .before .before .before in
@@ -30,4 +24,4 @@ returns-2 c =
     ∙ ap (λ (d : ℕ). addedScaled d (g .at) (g .strip .now) (g .x .now)) e
 
 pub add-bit-spec : {M : Type 1} → statement M
-add-bit-spec = tie.close (tie.spec returns add-requires same-length returns-2)
+add-bit-spec = tie.close (tie.spec returns (λ c κs. search needs) (λ c. search needs) returns-2)

@@ -19,32 +19,14 @@ Inv-loop x₀ at strip₀ c y₀ x strip y =
 abbrev μ-loop : tie.MeasureT-loop
 μ-loop x₀ at strip₀ c y₀ x strip y = y
 
-add-scaled-requires : tie.Need-add-scaled-requires Inv-loop μ-loop
-add-scaled-requires c κs = search needs
-
-same-length : tie.Need-same-length Inv-loop μ-loop
-same-length c = search needs
-
-same-length-2 : tie.Need-same-length-2 Inv-loop μ-loop
-same-length-2 c = search needs
-
 returns : tie.Need-returns Inv-loop μ-loop
 returns c = c .before .before .add-scaled .ensures
-
-add-bit-requires : tie.Need-add-bit-requires Inv-loop μ-loop
-add-bit-requires c κs = search needs
 
 loop-holds : tie.Need-loop-holds Inv-loop μ-loop
 loop-holds c = (search needs, refl, refl, refl)
 
 double-strip-requires : tie.Need-double-strip-requires Inv-loop μ-loop
 double-strip-requires c κs = tt
-
-add-bit-requires-2 : tie.Need-add-bit-requires-2 Inv-loop μ-loop
-add-bit-requires-2 c κs = search needs
-
-loop-less : tie.Need-loop-less Inv-loop μ-loop
-loop-less c = search needs
 
 loop-again : tie.Need-loop-again Inv-loop μ-loop
 loop-again c =
@@ -61,12 +43,6 @@ loop-again c =
           ∙ added-bit at (l .y) (d .last .0) (l .x) (l .inv .0) (omega arith)
           ∙ ap (λ (z : List ℕ). addedScaled (l .y) at z (l .x)) (d .ensures) ∙ l .inv .3,
     )
-
-same-length-3 : tie.Need-same-length-3 Inv-loop μ-loop
-same-length-3 c = search needs
-
-same-length-4 : tie.Need-same-length-4 Inv-loop μ-loop
-same-length-4 c = search needs
 
 returns-2 : tie.Need-returns-2 Inv-loop μ-loop
 returns-2 c =
@@ -87,16 +63,16 @@ add-multiple-spec =
     (tie.spec
     Inv-loop
     μ-loop
-    add-scaled-requires
-    same-length
-    same-length-2
+    (λ c κs. search needs)
+    (λ c. search needs)
+    (λ c. search needs)
     returns
-    add-bit-requires
+    (λ c κs. search needs)
     loop-holds
     double-strip-requires
-    add-bit-requires-2
-    loop-less
+    (λ c κs. search needs)
+    (λ c. search needs)
     loop-again
-    same-length-3
-    same-length-4
+    (λ c. search needs)
+    (λ c. search needs)
     returns-2)

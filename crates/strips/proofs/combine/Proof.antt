@@ -35,9 +35,6 @@ loop-holds c =
           (λ q. omega (arith, w .shared-slice-known2 .given q)),
     )
 
-sub-i : tie.Need-sub-i Inv-loop μ-loop
-sub-i c = search needs
-
 slice-aggregate-plane : tie.Need-slice-aggregate-plane Inv-loop μ-loop
 slice-aggregate-plane c = refl
 
@@ -54,9 +51,6 @@ plane-requires c κs =
       omega arith,
     )
 
-loop-less : tie.Need-loop-less Inv-loop μ-loop
-loop-less c = search needs
-
 loop-again : tie.Need-loop-again Inv-loop μ-loop
 loop-again c =
     let p = c .before .before .before .plane in
@@ -72,9 +66,6 @@ loop-again c =
           (λ q. omega (arith, w .shared-slice-known2 .given q)) (t .loop-test .taken) (l .inv .3)
           (p .ensures),
     )
-
-same-length : tie.Need-same-length Inv-loop μ-loop
-same-length c = search needs
 
 returns : tie.Need-returns Inv-loop μ-loop
 returns c =
@@ -95,11 +86,11 @@ combine-spec =
     μ-loop
     fill-requires
     loop-holds
-    sub-i
+    (λ c. search needs)
     slice-aggregate-plane
     slice-aggregate-plane-2
     plane-requires
-    loop-less
+    (λ c. search needs)
     loop-again
-    same-length
+    (λ c. search needs)
     returns)

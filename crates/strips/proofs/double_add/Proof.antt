@@ -25,9 +25,6 @@ Inv-loop dst₀ src zeros at count j₀ dst j =
 abbrev μ-loop : tie.MeasureT-loop
 μ-loop dst₀ src zeros at count j₀ dst j = count - j
 
-pass-requires : tie.Need-pass-requires Inv-loop μ-loop
-pass-requires c κs = search needs
-
 loop-holds : tie.Need-loop-holds Inv-loop μ-loop
 loop-holds c = (refl, λ x e. e)
 
@@ -55,9 +52,6 @@ loop-again c =
           (c .before .before .pass2 .ensures),
     )
 
-same-length : tie.Need-same-length Inv-loop μ-loop
-same-length c = search needs
-
 returns : tie.Need-returns Inv-loop μ-loop
 returns c =
     let l = c .before .loop in
@@ -74,11 +68,11 @@ double-add-spec =
     (tie.spec
     Inv-loop
     μ-loop
-    pass-requires
+    (λ c κs. search needs)
     loop-holds
     pass-requires-2
     add-j
     loop-less
     loop-again
-    same-length
+    (λ c. search needs)
     returns)

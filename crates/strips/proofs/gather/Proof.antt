@@ -31,33 +31,6 @@ mul-at c = omega (arith, c .before .before .pre .2 (c .before .loop .q) (c .loop
 add-at : tie.Need-add-at Inv-loop μ-loop
 add-at c = omega (arith, c .before .before .pre .2 (c .before .loop .q) (c .loop-test .taken))
 
-mul-at-2 : tie.Need-mul-at-2 Inv-loop μ-loop
-mul-at-2 c = search needs
-
-slice-write-at : tie.Need-slice-write-at Inv-loop μ-loop
-slice-write-at c = search needs
-
-shared-slice-read-count : tie.Need-shared-slice-read-count Inv-loop μ-loop
-shared-slice-read-count c = search needs
-
-cast-count : tie.Need-cast-count Inv-loop μ-loop
-cast-count c = search needs
-
-shr-count : tie.Need-shr-count Inv-loop μ-loop
-shr-count c = search needs
-
-cast-count-2 : tie.Need-cast-count-2 Inv-loop μ-loop
-cast-count-2 c = search needs
-
-add-count : tie.Need-add-count Inv-loop μ-loop
-add-count c = search needs
-
-add-q : tie.Need-add-q Inv-loop μ-loop
-add-q c = search needs
-
-loop-less : tie.Need-loop-less Inv-loop μ-loop
-loop-less c = search needs
-
 loop-again : tie.Need-loop-again Inv-loop μ-loop
 loop-again c =
     let l = c .before .before .loop in
@@ -68,9 +41,6 @@ loop-again c =
       gathered (g .i) (g .weights .now) (l .at) (l .count) (l .q) (g .first) (g .stride) (omega arith) (omega arith)
           (l .inv .3),
     )
-
-same-length : tie.Need-same-length Inv-loop μ-loop
-same-length c = search needs
 
 returns : tie.Need-returns Inv-loop μ-loop
 returns c =
@@ -91,15 +61,15 @@ gather-spec =
     loop-holds
     mul-at
     add-at
-    mul-at-2
-    slice-write-at
-    shared-slice-read-count
-    cast-count
-    shr-count
-    cast-count-2
-    add-count
-    add-q
-    loop-less
+    (λ c. search needs)
+    (λ c. search needs)
+    (λ c. search needs)
+    (λ c. search needs)
+    (λ c. search needs)
+    (λ c. search needs)
+    (λ c. search needs)
+    (λ c. search needs)
+    (λ c. search needs)
     loop-again
-    same-length
+    (λ c. search needs)
     returns)

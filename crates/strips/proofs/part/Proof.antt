@@ -36,23 +36,11 @@ module _ (zeros src at : List ℕ) (count n : ℕ) (lent : Lent zeros src (take 
       let size : length zeros ≡ 2048 = ap length (lent .blank) ∙ length-replicate {A = ℕ} 2048 0 in
       sym (length-take-le n zeros (omega (arith, lent .short)))
 
-mul-from : tie.Need-mul-from
-mul-from c = search needs
-
-shared-slice-read-from : tie.Need-shared-slice-read-from
-shared-slice-read-from c = search needs
-
 add-end : tie.Need-add-end
 add-end c =
     let g = c .before .before .args in
     let p = c .before .before .pre in
     omega (arith, inside _ _ _ _ (g .n) (p .0) (p .1) (g .j) (c .before .if1 .taken))
-
-sub-result : tie.Need-sub-result
-sub-result c = search needs
-
-part-result-start : tie.Need-part-result-start
-part-result-start c = search needs
 
 part-result-end : tie.Need-part-result-end
 part-result-end c =
@@ -82,11 +70,11 @@ pub part-spec : {M : Type 1} → statement M
 part-spec =
     tie.close
     (tie.spec
-    mul-from
-    shared-slice-read-from
+    (λ c. search needs)
+    (λ c. search needs)
     add-end
-    sub-result
-    part-result-start
+    (λ c. search needs)
+    (λ c. search needs)
     part-result-end
     returns
     slice-aggregate-result

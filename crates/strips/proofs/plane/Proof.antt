@@ -30,12 +30,6 @@ double-add-requires c κs =
     let r = w .gather .ensures in
     (lent (g .i) (g .weights .now) _ _ (g .first) (g .stride) (s .pre .0) (s .pre .1) (r .1), r .0)
 
-same-length : tie.Need-same-length
-same-length c = search needs
-
-same-length-2 : tie.Need-same-length-2
-same-length-2 c = search needs
-
 returns : tie.Need-returns
 returns c =
     let w = c .before .before .before .before .before .before .before in
@@ -46,4 +40,4 @@ returns c =
     (c .before .before .double-add .ensures)
 
 pub plane-spec : {M : Type 1} → statement M
-plane-spec = tie.close (tie.spec gather-requires double-add-requires same-length same-length-2 returns)
+plane-spec = tie.close (tie.spec gather-requires double-add-requires (λ c. search needs) (λ c. search needs) returns)

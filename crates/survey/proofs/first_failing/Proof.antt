@@ -41,12 +41,6 @@ look-requires c κs =
       ),
     )
 
-same-length : tie.Need-same-length
-same-length c = search needs
-
-returns-2 : tie.Need-returns-2
-returns-2 c = search needs
-
 pub first-failing-spec : {M : Type 1} → statement M
 first-failing-spec =
     tie.close
@@ -54,5 +48,5 @@ first-failing-spec =
     returns
     unrank-requires
     look-requires
-    same-length
-    returns-2)
+    (λ c. search needs)
+    (λ c. search needs))

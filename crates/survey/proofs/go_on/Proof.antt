@@ -9,9 +9,6 @@ use Rattle.ksets.proofs.Following.{next-set, steps-at}
 use Rattle.survey.proofs.go_on.Statement.{statement}
 use Rattle.survey.proofs.go_on.Tie as tie
 
-add-if1 : tie.Need-add-if1
-add-if1 c = search needs
-
 -- where there is a next set to look at
 module _ (c : tie.Then1) where
   abbrev start : tie.Start
@@ -25,9 +22,6 @@ step-requires c κs =
     let s = start (c .before) in
     rw (s .pre .1) (steps-at (s .args .n) _ (s .args .at) (s .pre .0 .0) (more (c .before)))
 
-same-length : tie.Need-same-length
-same-length c = search needs
-
 returns : tie.Need-returns
 returns c =
     let t = c .before .before .before .before in
@@ -39,4 +33,4 @@ returns-2 : tie.Need-returns-2
 returns-2 c = λ h. absurd (omega (arith, c .if1 .left, h))
 
 pub go-on-spec : {M : Type 1} → statement M
-go-on-spec = tie.close (tie.spec add-if1 step-requires same-length returns returns-2)
+go-on-spec = tie.close (tie.spec (λ c. search needs) step-requires (λ c. search needs) returns returns-2)

@@ -15,12 +15,6 @@ use Rattle.survey.proofs.Answers.{failing, done, left-open}
 use Rattle.survey.proofs.survey_from.Statement.{statement}
 use Rattle.survey.proofs.survey_from.Tie as tie
 
-sub-least : tie.Need-sub-least
-sub-least c = search needs
-
-least-requires : tie.Need-least-requires
-least-requires c κs = search needs
-
 -- the number of sets to look at
 module _ (c : tie.After-least) where
   abbrev start : tie.Start
@@ -94,12 +88,6 @@ sub-passed c =
     let f = c .before .before .before .before .before .before .before in
     rw (f .first-failing .ensures .first) (first-found _ _ _ .low)
 
-add-t21 : tie.Need-add-t21
-add-t21 c = search needs
-
-same-length : tie.Need-same-length
-same-length c = search needs
-
 returns : tie.Need-returns
 returns c =
     let p = c .before .before in
@@ -127,8 +115,8 @@ pub survey-from-spec : {M : Type 1} → statement M
 survey-from-spec =
     tie.close
     (tie.spec
-    sub-least
-    least-requires
+    (λ c. search needs)
+    (λ c κs. search needs)
     add-end
     array-borrow-prefix-current
     slice-aggregate-first-failing
@@ -136,8 +124,8 @@ survey-from-spec =
     slice-aggregate-copy
     copy-requires
     sub-passed
-    add-t21
-    same-length
+    (λ c. search needs)
+    (λ c. search needs)
     returns
     returns-2
     returns-3)

@@ -30,9 +30,6 @@ survey-from-requires c κs =
     let l = c .before .before .before in
     (start l .pre, l .before .count .ensures, l .if1 .left, c .before .if2 .left)
 
-same-length : tie.Need-same-length
-same-length c = search needs
-
 returns-3 : tie.Need-returns-3
 returns-3 c =
     let f = c .before .before in
@@ -47,5 +44,5 @@ survey-with-spec =
     returns
     returns-2
     survey-from-requires
-    same-length
+    (λ c. search needs)
     returns-3)

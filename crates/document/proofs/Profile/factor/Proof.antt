@@ -14,9 +14,6 @@ returns-2 c =
     let s = c .before .before in
     factor-one (s .args .self) (s .args .i .0) (s .args .l) (c .if2 .taken)
 
-constant-requires : tie.Need-constant-requires
-constant-requires c κs = search needs
-
 returns-3 : tie.Need-returns-3
 returns-3 c =
     let s = c .before .before .before in
@@ -25,4 +22,4 @@ returns-3 c =
     (omega (arith, c .before .if2 .left, c .before .before .if1 .left))
 
 pub factor-spec : {M : Type 1} → statement M
-factor-spec = tie.close (tie.spec returns returns-2 constant-requires returns-3)
+factor-spec = tie.close (tie.spec returns returns-2 (λ c κs. search needs) returns-3)

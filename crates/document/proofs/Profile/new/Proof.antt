@@ -17,9 +17,6 @@ use Rattle.document.proofs.Accepts.{
 use Rattle.document.proofs.Profile.new.Statement.{statement}
 use Rattle.document.proofs.Profile.new.Tie as tie
 
-accepts-shape-requires : tie.Need-accepts-shape-requires
-accepts-shape-requires c κs = search needs
-
 -- past the first test
 shape : (c : tie.Else1)
     → shapeAccepted (c .before .before .args .p .n) (c .before .before .args .p .k) (c .before .before .args .p .a) ≡ true
@@ -46,9 +43,6 @@ returns-5 c =
     sym (strip-refused _ (shape (c .before .before .before .before)) (decides-constant _ .1 (omega arith, omega arith))
     (decides-false _ (decides-strip _) (λ h. omega (arith, h))))
 
-cast-t11 : tie.Need-cast-t11
-cast-t11 c = search needs
-
 returns-6 : tie.Need-returns-6
 returns-6 c =
     sym (none-refused _ (shape (c .before .before .before .before)) (decides-constant _ .1 (omega arith, omega arith))
@@ -58,11 +52,11 @@ pub new-spec : {M : Type 1} → statement M
 new-spec =
     tie.close
     (tie.spec
-    accepts-shape-requires
+    (λ c κs. search needs)
     returns
     returns-2
     returns-3
     returns-4
     returns-5
-    cast-t11
+    (λ c. search needs)
     returns-6)

@@ -5,9 +5,6 @@ use Rattle.document.proofs.Bounds.{group-within}
 use Rattle.document.proofs.Profile.partner.Statement.{statement}
 use Rattle.document.proofs.Profile.partner.Tie as tie
 
-div-t5 : tie.Need-div-t5
-div-t5 c = search needs
-
 mul-t6 : tie.Need-mul-t6
 mul-t6 c =
     let s = c .before .before in
@@ -18,11 +15,5 @@ add-t7 c =
     let s = c .before .before in
     omega (arith, group-within (s .args .self) (s .pre .0) (s .args .q .node .0) (s .pre .1 .node), s .pre .0, s .pre .1)
 
-rem-t9 : tie.Need-rem-t9
-rem-t9 c = search needs
-
-returns : tie.Need-returns
-returns c = search needs
-
 pub partner-spec : {M : Type 1} → statement M
-partner-spec = tie.close (tie.spec div-t5 mul-t6 add-t7 rem-t9 returns)
+partner-spec = tie.close (tie.spec (λ c. search needs) mul-t6 add-t7 (λ c. search needs) (λ c. search needs))
