@@ -18,7 +18,6 @@ use Rattle.algebra.proofs.Sum.{sum-ext}
 use Rattle.algebra.proofs.Square.{dot-ext, dot-zeros}
 use Rattle.square.specs.declared.Line.{Line}
 use Rattle.square.specs.Steps.{noLine, lineAt, entry}
-use Rattle.square.specs.Elimination.{whole}
 use Rattle.document.specs.declared.Profile.{Profile}
 use Rattle.document.specs.declared.Place.{Place}
 use Rattle.document.specs.Profile.{Accepted}
@@ -51,7 +50,7 @@ use Rattle.document.proofs.Arrays.{
   laid-bytes,
 }
 use Rattle.document.proofs.SquareSteps.{matrix, Shaped, unit-square}
-use Rattle.document.proofs.Squares.{singular-kernel, not-singular}
+use Rattle.document.proofs.Squares.{singular-kernel, regular, not-singular}
 use Rattle.document.proofs.Coefficients.{encoded-sum}
 
 infixl 70 _⊗_
@@ -234,11 +233,7 @@ module _ (p : Profile) where
       -- it made the inverse
       inverse : Inverse bytes m m M (matrix (inverseOf p nodes))
       unfolding ambiguous eliminationOf inverseOf
-      inverse = go (not-singular (square-shaped nodes) (unit-square m (omega arith)) clear)
-        where
-          go : (u : List Line) × (eliminationOf p nodes ≡ whole u) × Inverse bytes m m M (matrix u)
-              → Inverse bytes m m M (matrix (inverseOf p nodes))
-          go (u, e, I) = rw e I
+      inverse = regular (square-shaped nodes) (unit-square m (omega arith)) (not-singular _ clear)
 
       -- The data read back from any kAS bytes have these as their columns.
       pub read-columns : (x : List ℕ) → length x ≡ k * A * S → ((e : ℕ) → e < length x → getD x e 0 < 256)

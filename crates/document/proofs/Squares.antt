@@ -34,7 +34,10 @@ use Rattle.square.specs.declared.Line.{Line}
 use Rattle.square.specs.declared.Pivot.{Pivot}
 use Rattle.square.specs.declared.Pivot.the-variants.{At, Missing}
 use Rattle.square.specs.Steps.{entry, stepped, lifted, multiplierAt, pivotFrom}
-use Rattle.square.specs.Elimination.{Ended, whole, stuck, endFrom, eliminated, singular, kernelFrom}
+use Rattle.square.specs.declared.Verdict.{Verdict}
+use Rattle.square.specs.declared.Verdict.the-variants.{Regular, Singular}
+use Rattle.square.specs.declared.Eliminated.{Eliminated}
+use Rattle.square.specs.Elimination.{endFrom, eliminated, singular, kernelFrom}
 use Rattle.square.proofs.Pivots.{Pivoted, pivoted, unpivoted}
 use Rattle.square.proofs.Ends.{end-at, end-stuck}
 use Rattle.document.specs.Bytes.{bytes, Byte, byte}
@@ -86,9 +89,12 @@ module _ (m w : ℕ) (M : Matrix bytes) where
     pub one : vector l r ≡ bytes .𝟙
     pub kills : Solves bytes m w M (λ i. bytes .𝟘) (vector l)
 
-  unfoldable Good : Ended → Type 0
-  Good (whole u) = Inverse bytes m w M (matrix u)
-  Good (stuck r a) = Null r (kernelFrom w r a)
+  unfoldable Good : Verdict → List Line → Type 0
+  Good Regular u = Inverse bytes m w M (matrix u)
+  Good (Singular r) a = Null r (kernelFrom w r a)
+
+  abbrev GoodEnd : Eliminated → Type 0
+  GoodEnd e = Good (e .verdict) (e .lines)
 
   -- The vector is not zero, so it is in the kernel.
   pub null-kernel : {r : ℕ} {l : List ℕ} → Null r l → Kernel bytes m w M
@@ -203,7 +209,7 @@ module _ (m w : ℕ) (M : Matrix bytes) where
       one = ap byte (kernel-at w r a l) ∙ byte-one
 
   -- Column by column, with n still to do.
-  good : (n r : ℕ) → n + r ≡ w → r ≤ m → (a t : List Line) → State r a t → Good (endFrom m n r a t)
+  good : (n r : ℕ) → n + r ≡ w → r ≤ m → (a t : List Line) → State r a t → GoodEnd (endFrom m n r a t)
   unfolding endFrom Good
   good zero r e l a t S =
       let q : r ≡ w = omega arith in
@@ -211,8 +217,8 @@ module _ (m w : ℕ) (M : Matrix bytes) where
   good (suc n) r e l a t S = go (pivotFrom a r r m) refl (good n (suc r) (omega arith))
     where
       go : (x : Pivot) → pivotFrom a r r m ≡ x
-          → (suc r ≤ m → (a t : List Line) → State (suc r) a t → Good (endFrom m n (suc r) a t))
-          → Good (endFrom m (suc n) r a t)
+          → (suc r ≤ m → (a t : List Line) → State (suc r) a t → GoodEnd (endFrom m n (suc r) a t))
+          → GoodEnd (endFrom m (suc n) r a t)
       go (At p) h next =
           let P : Pivoted a r r m p = pivoted a r r m p h in
           rw (end-at m r a t n p h)
@@ -222,7 +228,7 @@ module _ (m w : ℕ) (M : Matrix bytes) where
 -- ---- the outcome
 module _ {m w : ℕ} {s t : List Line} (S : Shaped m w s) (T : UnitShaped m t) where
   -- How the elimination of s with the right half t ends.
-  ended : Good m w (matrix s) (eliminated m w s t)
+  ended : GoodEnd m w (matrix s) (eliminated m w s t)
   ended =
       good m w (matrix s) w 0 (omega arith) (omega arith) s t
       record {
@@ -233,33 +239,26 @@ module _ {m w : ℕ} {s t : List Line} (S : Shaped m w s) (T : UnitShaped m t) w
       }
 
   -- Each column has its pivot: the right half becomes the inverse.
-  pub regular : {u : List Line} → eliminated m w s t ≡ whole u → Inverse bytes m w (matrix s) (matrix u)
+  pub regular : eliminated m w s t .verdict ≡ Regular → Inverse bytes m w (matrix s) (matrix (eliminated m w s t .lines))
   unfolding Good
-  regular {u} e = rw e at ended
+  regular e = rw e at ended
 
   -- Column r has no pivot: the vector that is read off is taken to zero, and it is 1 at r.
-  pub stuck-kernel : {r : ℕ} {a : List Line} → eliminated m w s t ≡ stuck r a
-      → Null m w (matrix s) r (kernelFrom w r a)
+  pub stuck-kernel : {r : ℕ} → eliminated m w s t .verdict ≡ Singular r
+      → Null m w (matrix s) r (kernelFrom w r (eliminated m w s t .lines))
   unfolding Good
   stuck-kernel e = rw e at ended
 
   -- A column has no pivot exactly where the square takes some vector other than zero to zero.
-  pub singular-kernel : (singular (eliminated m w s t) ≡ true) ↔ Kernel bytes m w (matrix s)
-  unfolding Good
-  singular-kernel = go (eliminated m w s t) ended
+  pub singular-kernel : (singular (eliminated m w s t .verdict) ≡ true) ↔ Kernel bytes m w (matrix s)
+  singular-kernel = go (eliminated m w s t .verdict) refl
     where
-      go : (x : Ended) → Good m w (matrix s) x → (singular x ≡ true) ↔ Kernel bytes m w (matrix s)
-      go (whole u) g =
-          ((λ e. let z : _≡_ {A = ℕ} 0 1 = cc in absurd (omega arith)), λ k. absurd (no-kernel bytes g k))
-      go (stuck r a) g = ((λ e. null-kernel m w (matrix s) g), λ k. refl)
+      go : (v : Verdict) → eliminated m w s t .verdict ≡ v → (singular v ≡ true) ↔ Kernel bytes m w (matrix s)
+      go Regular e =
+          ((λ q. let z : _≡_ {A = ℕ} 0 1 = cc in absurd (omega arith)), λ k. absurd (no-kernel bytes (regular e) k))
+      go (Singular r) e = ((λ q. null-kernel m w (matrix s) (stuck-kernel e)), λ k. refl)
 
-  -- Otherwise there is the inverse.
-  pub not-singular : singular (eliminated m w s t) ≡ false
-      → (u : List Line) × (eliminated m w s t ≡ whole u) × Inverse bytes m w (matrix s) (matrix u)
-  unfolding Good
-  not-singular = go (eliminated m w s t) ended
-    where
-      go : (x : Ended) → Good m w (matrix s) x → singular x ≡ false
-          → (u : List Line) × (x ≡ whole u) × Inverse bytes m w (matrix s) (matrix u)
-      go (whole u) g e = (u, refl, g)
-      go (stuck r a) g e = let z : _≡_ {A = ℕ} 0 1 = cc in absurd (omega arith)
+-- no column without a pivot
+pub not-singular : (v : Verdict) → singular v ≡ false → v ≡ Regular
+not-singular Regular e = refl
+not-singular (Singular r) e = let z : _≡_ {A = ℕ} 0 1 = cc in absurd (omega arith)

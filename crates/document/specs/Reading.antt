@@ -12,15 +12,14 @@
 -- squareOf p nodes          : the coefficient square: a line for each strip of the joined columns
 -- eliminationOf p nodes     : its elimination, beside the unit square
 -- ambiguous p nodes         : the test of refusal 10
--- inverseIn e               : the lines of the inverse, from how an elimination ended; none where a column has no pivot
--- inverseOf p nodes         : the lines of the inverse of the coefficient square
+-- inverseOf p nodes         : the lines of the inverse of the coefficient square, where the test is false
 -- dataFrom p nodes x        : the data read back from the joined columns x
 -- readTests p nodes x y     : the refusals of reading back past those of a profile, in their order
 -- readWith p nodes x y      : reading back the columns x of the named nodes into y with the profile p: the answer, and
 --                             what y holds then
 -- readOf p nodes x y        : the same for any numbers p
 --
--- From `square`: eliminated rows columns s t is how the elimination of s beside t ends, with `whole` and what became of t
+-- From `square`: eliminated rows columns s t is how the elimination of s beside t ends, with `Regular` and what became of t
 -- if each column has a pivot. That the test is true exactly where some two different data give equal columns,
 -- and that the data read back are otherwise the only ones with these columns, is demand 2.
 use mathlib.Core.Path.{_≡_}
@@ -38,7 +37,8 @@ use Rattle.algebra.specs.Sum.{sum}
 use Rattle.algebra.specs.Weight.{weight}
 use Rattle.square.specs.declared.Line.{Line}
 use Rattle.square.specs.Steps.{entry, unitSquare}
-use Rattle.square.specs.Elimination.{Ended, whole, stuck, eliminated, singular}
+use Rattle.square.specs.declared.Eliminated.{Eliminated}
+use Rattle.square.specs.Elimination.{eliminated, singular}
 use Rattle.document.specs.declared.Numbers.{Numbers}
 use Rattle.document.specs.declared.Profile.{Profile}
 use Rattle.document.specs.declared.Place.{Place}
@@ -105,19 +105,15 @@ module _ (p : Profile) where
   unfoldable pub squareOf : List ℕ → List Line
   squareOf nodes = listed (k * A) (λ z. lineOf (joinedPlace nodes z))
 
-  unfoldable pub eliminationOf : List ℕ → Ended
+  unfoldable pub eliminationOf : List ℕ → Eliminated
   eliminationOf nodes = eliminated (k * A) (k * A) (squareOf nodes) (unitSquare (k * A))
 
   -- The test of refusal 10, 'whatever bytes the lent columns hold': it does not look at them.
   unfoldable pub ambiguous : List ℕ → Bool
-  ambiguous nodes = singular (eliminationOf nodes)
-
-  abbrev pub inverseIn : Ended → List Line
-  inverseIn (whole t) = t
-  inverseIn (stuck r a) = []
+  ambiguous nodes = singular (eliminationOf nodes .verdict)
 
   unfoldable pub inverseOf : List ℕ → List Line
-  inverseOf nodes = inverseIn (eliminationOf nodes)
+  inverseOf nodes = eliminationOf nodes .lines
 
   -- Each data symbol is the sum of the joined columns' symbols at its byte offset, times its line of the inverse.
   unfoldable pub dataFrom : List ℕ → List ℕ → List ℕ

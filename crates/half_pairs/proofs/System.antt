@@ -24,7 +24,7 @@ use Rattle.algebra.proofs.Pick.{pick-yes, pick-no}
 use Rattle.square.specs.declared.Line.{Line}
 use Rattle.square.specs.declared.Verdict.the-variants.{Regular, Singular}
 use Rattle.square.specs.Steps.{noLine, lineAt, entry, filled, unitSquare}
-use Rattle.square.specs.Elimination.{Ended, whole, stuck, eliminated, verdictAndLines, singular}
+use Rattle.square.specs.Elimination.{eliminated}
 use Rattle.square.proofs.Steps.{filled-at, filled-rest, filled-length, set-at}
 use Rattle.document.specs.declared.Profile.{Profile}
 use Rattle.document.specs.declared.Place.{Place}
@@ -35,7 +35,7 @@ use Rattle.document.specs.Reading.{ambiguous}
 use Rattle.document.proofs.Bounds.{square-bound}
 use Rattle.document.proofs.Bytes.{number-lt, byte-number, number-zero, number-one, number-add}
 use Rattle.document.proofs.SquareSteps.{matrix, Shaped, unit-square}
-use Rattle.document.proofs.Squares.{singular-kernel, regular}
+use Rattle.document.proofs.Squares.{regular, stuck-kernel, null-kernel}
 use Rattle.lists.specs.Positions.{positionIn}
 use Rattle.half_pairs.specs.declared.HalfPairs.{HalfPairs}
 use Rattle.half_pairs.specs.HalfPairs.{
@@ -217,29 +217,20 @@ module _ (p : Profile) (nodes : List ℕ) where
     unfolding halfPairs
     few-halves = omega (arith, rising-length (isHalfPair p nodes) (k * A), square-bound p acc)
 
-    pub stuck-ambiguous : (r : ℕ) → verdictAndLines (systemEnd p nodes) .verdict ≡ Singular r → ambiguous p nodes ≡ true
+    pub stuck-ambiguous : (r : ℕ) → systemEnd p nodes .verdict ≡ Singular r → ambiguous p nodes ≡ true
     stuck-ambiguous r e =
         kernel-ambiguous p nodes acc rises
         (kernel-ext bytes (system-matrix few-halves)
-        (singular-kernel (system-shaped few-halves) (unit-square 80 few-halves) .0 (go (systemEnd p nodes) e)))
-      where
-        go : (x : Ended) → verdictAndLines x .verdict ≡ Singular r → singular x ≡ true
-        go (whole t) q = absurd (let z : _≡_ {A = ℕ} 0 1 = cc in omega arith)
-        go (stuck c a) q = refl
+        (null-kernel _ _ _ (stuck-kernel (system-shaped few-halves) (unit-square 80 few-halves) e)))
 
     -- and the lines are those of the inverse
-    pub regular-inverse : verdictAndLines (systemEnd p nodes) .verdict ≡ Regular
-        → Inverse bytes (U p nodes) (U p nodes) (systemAt p nodes) (matrix (verdictAndLines (systemEnd p nodes) .lines))
-    regular-inverse e = go (systemEnd p nodes) refl e
-      where
-        go : (x : Ended) → systemEnd p nodes ≡ x → verdictAndLines x .verdict ≡ Regular
-            → Inverse bytes (U p nodes) (U p nodes) (systemAt p nodes) (matrix (verdictAndLines x .lines))
-        go (whole t) f q =
-            inverse-ext bytes (system-matrix few-halves) (λ i j h l. refl)
-            (regular (system-shaped few-halves) (unit-square 80 few-halves) f)
-        go (stuck c a) f q = absurd (let z : _≡_ {A = ℕ} 0 1 = cc in omega arith)
+    pub regular-inverse : systemEnd p nodes .verdict ≡ Regular
+        → Inverse bytes (U p nodes) (U p nodes) (systemAt p nodes) (matrix (systemEnd p nodes .lines))
+    regular-inverse e =
+        inverse-ext bytes (system-matrix few-halves) (λ i j h l. refl)
+        (regular (system-shaped few-halves) (unit-square 80 few-halves) e)
 
-    pub regular-clear : verdictAndLines (systemEnd p nodes) .verdict ≡ Regular → ambiguous p nodes ≡ false
+    pub regular-clear : systemEnd p nodes .verdict ≡ Regular → ambiguous p nodes ≡ false
     regular-clear e = inverse-clear p nodes acc rises (regular-inverse e)
 
 -- ---- as the code has it

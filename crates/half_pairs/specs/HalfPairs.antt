@@ -37,7 +37,8 @@ use Rattle.algebra.specs.Coupling.{Array}
 use Rattle.algebra.specs.HalfPairs.{weightAt, halfFactor, system}
 use Rattle.square.specs.declared.Line.{Line}
 use Rattle.square.specs.Steps.{filled, unitSquare}
-use Rattle.square.specs.Elimination.{Ended, eliminated}
+use Rattle.square.specs.declared.Eliminated.{Eliminated}
+use Rattle.square.specs.Elimination.{eliminated}
 use Rattle.document.specs.declared.Profile.{Profile}
 use Rattle.document.specs.declared.Place.{Place}
 use Rattle.document.specs.Places.{partnerOf}
@@ -102,7 +103,7 @@ module _ (p : Profile) (nodes : List ℕ) where
   systemSquare =
       filled (λ e. record { c = systemLine e }) (replicate 80 (record { c = replicate 80 0 })) (length halfPairs)
 
-  abbrev pub systemEnd : Ended
+  abbrev pub systemEnd : Eliminated
   systemEnd = eliminated (length halfPairs) (length halfPairs) systemSquare (unitSquare 80)
 
   pub record HalfPairsOf (h : HalfPairs) : Type 0 where

@@ -9,8 +9,10 @@ use Rattle.square.specs.declared.Line.{Line}
 use Rattle.square.specs.declared.Left.{Left}
 use Rattle.square.specs.declared.Pivot.{Pivot}
 use Rattle.square.specs.declared.Pivot.the-variants.{At, Missing}
+use Rattle.square.specs.declared.Verdict.the-variants.{Regular, Singular}
+use Rattle.square.specs.declared.Eliminated.{Eliminated}
 use Rattle.square.specs.Steps.{stepped, lifted, multiplierAt, pivotFrom}
-use Rattle.square.specs.Elimination.{Ended, clearing, endFrom, eliminated, whole, stuck}
+use Rattle.square.specs.Elimination.{clearing, endFrom, eliminated}
 use Rattle.square.specs.Columns.{EntriesOf, Multipliers, Cleared}
 use Rattle.square.proofs.Steps.{left-next, stepped-ext}
 use Rattle.square.proofs.Pivots.{Pivoted, pivoted}
@@ -22,12 +24,13 @@ module _ (rows r : ℕ) (a t : List Line) where
   unfolding endFrom
   end-at n p e = rw e
 
-  pub end-stuck : (n : ℕ) → pivotFrom a r r rows ≡ Missing → endFrom rows (suc n) r a t ≡ stuck r a
+  pub end-stuck : (n : ℕ) → pivotFrom a r r rows ≡ Missing
+      → endFrom rows (suc n) r a t ≡ record { verdict = Singular r; lines = a }
   unfolding endFrom
   end-stuck n e = rw e
 
 -- ---- the loop over the columns: the elimination that is left, from column r on, ends as the whole one does
-pub record Reached (rows columns r : ℕ) (a : Left) (t : List Line) (end : Ended) : Type 0 where
+pub record Reached (rows columns r : ℕ) (a : Left) (t : List Line) (end : Eliminated) : Type 0 where
   pub small : (rows ≤ 80) × (columns ≤ 80)
   pub passed : r ≤ columns
   pub rest : endFrom rows (columns - r) r (a .lines) t ≡ end
@@ -44,8 +47,8 @@ reached-none {rows} {columns} {a} {t} few h =
       entries = h;
     }
 
-module _ {rows columns r : ℕ} {a : Left} {t : List Line} {end : Ended} (w : Reached rows columns r a t end) where
-  pub reached-all : columns ≤ r → whole t ≡ end
+module _ {rows columns r : ℕ} {a : Left} {t : List Line} {end : Eliminated} (w : Reached rows columns r a t end) where
+  pub reached-all : columns ≤ r → record { verdict = Regular; lines = t } ≡ end
   unfolding endFrom
   reached-all h = let z : columns - r ≡ 0 = omega arith in rw z at (w .rest)
 
@@ -58,7 +61,7 @@ module _ {rows columns r : ℕ} {a : Left} {t : List Line} {end : Ended} (w : Re
     found : {y : Pivot} → x ≡ y → pivotFrom (a .lines) r r rows ≡ y
     found e = sym (finds (a .lines) r column) ∙ e
 
-    pub reached-stuck : x ≡ Missing → stuck r (a .lines) ≡ end
+    pub reached-stuck : x ≡ Missing → record { verdict = Singular r; lines = a .lines } ≡ end
     reached-stuck e =
         sym (rw (left-next r columns h) (end-stuck rows r (a .lines) t (columns - (r + 1)) (found e))) ∙ w .rest
 

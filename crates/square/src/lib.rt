@@ -9,7 +9,7 @@ ghost use lib.ListN.{length, getD};
 ghost use lib.Dec.{eqb};
 ghost use Rattle.strips.specs.Strips.{addedScaled};
 ghost use Rattle.square.specs.Steps.{stepped, lifted, pivotFrom, unitSquare};
-ghost use Rattle.square.specs.Elimination.{eliminated, verdictAndLines};
+ghost use Rattle.square.specs.Elimination.{eliminated};
 ghost use Rattle.square.specs.Columns.{Holds, EntriesOf, Multipliers, Cleared};
 
 // One line: the coefficients of one equation.
@@ -202,7 +202,7 @@ fn started(s: [Line; 80], rows: usize) -> Left
 // The inverse of the square, or the square reduced as far as it goes.
 pub fn invert(s: [Line; 80], rows: usize, columns: usize) -> Eliminated
     requires { ⌜ (rows ≤ 80) × (columns ≤ 80) ⌝ }
-    ensures { λ z. ⌜ z ≡ verdictAndLines (eliminated rows columns s (unitSquare 80)) ⌝ }
+    ensures { λ z. ⌜ z ≡ eliminated rows columns s (unitSquare 80) ⌝ }
 {
     let mut a = started(s, rows);
     let mut t = unit_square();
@@ -236,7 +236,7 @@ pub fn invert(s: [Line; 80], rows: usize, columns: usize) -> Eliminated
 // The verdict alone: half the work, for a survey.
 pub fn judge(s: [Line; 80], rows: usize, columns: usize) -> Verdict
     requires { ⌜ (rows ≤ 80) × (columns ≤ 80) ⌝ }
-    ensures { λ z. ⌜ z ≡ verdictAndLines (eliminated rows columns s (unitSquare 80)) .verdict ⌝ }
+    ensures { λ z. ⌜ z ≡ eliminated rows columns s (unitSquare 80) .verdict ⌝ }
 {
     let mut a = started(s, rows);
     let mut r: usize = 0;

@@ -6,7 +6,6 @@ use native.Mathlib.Omega.{arith}
 use borrow.Author.Needs.{needs}
 use lib.Seq.{length-take-le}
 use Rattle.square.specs.declared.Eliminated.{Eliminated}
-use Rattle.square.specs.Elimination.{verdictAndLines}
 use Rattle.document.specs.declared.Answer.the-variants.{Done}
 use Rattle.half_pairs.specs.HalfPairs.{systemEnd}
 use Rattle.half_pairs.proofs.System.{stuck-ambiguous, regular-inverse, regular-clear}
@@ -40,9 +39,9 @@ module _ (c : tie.After-invert) where
   abbrev s : tie.Start
   s = start made
 
-  inverted : c .invert .result ≡ verdictAndLines (systemEnd (s .args .p) (s .args .nodes .now))
+  inverted : c .invert .result ≡ systemEnd (s .args .p) (s .args .nodes .now)
   inverted =
-      c .invert .ensures ∙ ap verdictAndLines (system-end (made .of-nodes .ensures) (c .before .small-system .ensures))
+      c .invert .ensures ∙ system-end (made .of-nodes .ensures) (c .before .small-system .ensures)
 
 enum-told : tie.Need-enum-told
 enum-told c = search needs

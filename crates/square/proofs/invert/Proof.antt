@@ -1,8 +1,7 @@
 -- `square::invert` meets its contract. The loop's invariant: the elimination that is left, on the square and right half
 -- reached, ends as the whole one does.
-use mathlib.Core.Path.{ap}
 use Prim.Native.Nat.{_-_, _<_}
-use Rattle.square.specs.Elimination.{eliminated, verdictAndLines}
+use Rattle.square.specs.Elimination.{eliminated}
 use Rattle.square.proofs.Ends.{Reached, reached-none, reached-all, reached-stuck, reached-below, reached-next}
 use borrow.Author.Needs.{needs}
 use Rattle.square.proofs.invert.Statement.{statement}
@@ -28,8 +27,7 @@ returns c =
     let n = c .before in
     let f = n .before .before in
     let i = f .before .before in
-    cc (ap verdictAndLines
-    (reached-stuck (i .before .loop .inv) (i .loop-test .taken) (f .find-pivot .ensures) (n .enum-told .given .1)))
+    cc (reached-stuck (i .before .loop .inv) (i .loop-test .taken) (f .find-pivot .ensures) (n .enum-told .given .1))
 
 loop-again : tie.Need-loop-again Inv-loop μ-loop
 loop-again c =
@@ -41,7 +39,7 @@ loop-again c =
     (m .multipliers .ensures) (c .clear .ensures) (c .before .follow .ensures)
 
 returns-2 : tie.Need-returns-2 Inv-loop μ-loop
-returns-2 c = cc (ap verdictAndLines (reached-all (c .before .loop .inv) (c .loop-test .left)))
+returns-2 c = cc (reached-all (c .before .loop .inv) (c .loop-test .left))
 
 pub invert-spec : {M : Type 1} → statement M
 invert-spec =

@@ -4,8 +4,9 @@ use mathlib.Core.Path.{refl, ap}
 use mathlib.Core.List.{List}
 use Prim.Native.Nat.{_-_, _<_}
 use Rattle.square.specs.declared.Line.{Line}
+use Rattle.square.specs.declared.Eliminated.{Eliminated}
 use Rattle.square.specs.Steps.{unitSquare}
-use Rattle.square.specs.Elimination.{Ended, eliminated, verdictAndLines}
+use Rattle.square.specs.Elimination.{eliminated}
 use Rattle.square.proofs.Ends.{Reached, reached-none, reached-all, reached-stuck, reached-below, reached-next}
 use borrow.Author.Needs.{needs}
 use Rattle.square.proofs.judge.Statement.{statement}
@@ -31,7 +32,7 @@ returns : tie.Need-returns Inv-loop μ-loop
 returns c =
     let f = c .before .before in
     let i = f .before .before in
-    cc (ap (λ (x : Ended). verdictAndLines x .verdict)
+    cc (ap (λ (x : Eliminated). x .verdict)
     (reached-stuck (i .before .loop .inv .1) (i .loop-test .taken) (f .find-pivot .ensures) (c .enum-told .given .1)))
 
 loop-again : tie.Need-loop-again Inv-loop μ-loop
@@ -46,7 +47,7 @@ loop-again c =
 
 returns-2 : tie.Need-returns-2 Inv-loop μ-loop
 returns-2 c =
-    cc (ap (λ (x : Ended). verdictAndLines x .verdict) (reached-all (c .before .loop .inv .1) (c .loop-test .left)))
+    cc (ap (λ (x : Eliminated). x .verdict) (reached-all (c .before .loop .inv .1) (c .loop-test .left)))
 
 pub judge-spec : {M : Type 1} → statement M
 judge-spec =

@@ -1,7 +1,7 @@
 -- `survey::fails` meets its contract: the verdict on the system of the half pairs tells whether the set is ambiguous.
 use mathlib.Core.Path.{_≡_, sym, ap, _∙_}
 use borrow.Author.Needs.{needs}
-use Rattle.square.specs.Elimination.{Ended, verdictAndLines}
+use Rattle.square.specs.declared.Eliminated.{Eliminated}
 use Rattle.half_pairs.specs.HalfPairs.{systemEnd}
 use Rattle.half_pairs.proofs.System.{stuck-ambiguous, regular-clear, count-few, system-end}
 use Rattle.survey.proofs.fails.Statement.{statement}
@@ -25,10 +25,10 @@ module _ (c : tie.After-judge) where
   abbrev s : tie.Start
   s = c .before .before .before .before
 
-  judged : c .judge .result ≡ verdictAndLines (systemEnd (s .args .p) (s .args .set .now)) .verdict
+  judged : c .judge .result ≡ systemEnd (s .args .p) (s .args .set .now) .verdict
   judged =
       c .judge .ensures
-      ∙ ap (λ (e : Ended). verdictAndLines e .verdict)
+      ∙ ap (λ (e : Eliminated). e .verdict)
       (system-end (c .before .before .of-nodes .ensures) (c .before .small-system .ensures))
 
 enum-told : tie.Need-enum-told
