@@ -45,9 +45,7 @@ use Rattle.document.proofs.Arrays.{
   coupled-lower,
   coupled-ext,
 }
-use Rattle.document.specs.declared.Refusal.the-variants.{BufferLength}
-use Rattle.document.proofs.Decides.{decides-eq, decided}
-use Rattle.document.proofs.Decides.{decides-eq, decides-both, decides-not}
+use Rattle.document.proofs.Decides.{decides-eq, decides-both, decides-not, decided}
 use Rattle.demands.specs.Tables.{Decided, none, line}
 use Rattle.demands.specs.Encoding.{encodeSentences, Demand1Encode, DocumentArray, OneArray, Demand2Encode}
 use Rattle.demands.proofs.Tables.{by-name}

@@ -1,4 +1,4 @@
--- The tests of a profile decide whether its numbers are accepted.
+-- The tests of a profile decide whether its numbers are accepted; and the head of a call, which tries them first.
 use mathlib.Core.Path.{_≡_, refl, sym, ap, subst, _∙_}
 use mathlib.Core.Bool.{Bool, true, false, false≢true}
 use mathlib.Core.List.{List, _++_}
@@ -111,9 +111,9 @@ failed-accepted p (shape, (constant, (strip, _))) =
     }
 
 -- what a call makes of the outcome of `Profile::new`
-abbrev decided : {X : Type 0} → (Refusal → X) → (Profile → X) → Checked → X
-decided refuse go (Passed q) = go q
-decided refuse go (Rejected r) = refuse r
+abbrev onChecked : {X : Type 0} → (Refusal → X) → (Profile → X) → Checked → X
+onChecked refuse go (Passed q) = go q
+onChecked refuse go (Rejected r) = refuse r
 
 abbrev Sound : Checked → Type 0
 Sound (Passed q) = Accepted q
@@ -130,15 +130,15 @@ module _ (p : Numbers) where
 
   -- A call that goes by the outcome of `Profile::new` tries a profile's refusals first.
   module _ {X : Type 0} (refuse : Refusal → X) (go : Profile → X) where
-    head : decided refuse go (checkedOf p) ≡ onAccepted p refuse go
+    head : onChecked refuse go (checkedOf p) ≡ onAccepted p refuse go
     unfolding checkedOf onAccepted
-    head = tried-map (decided refuse go) (profileTests p) Rejected (Passed (profileOf p))
+    head = tried-map (onChecked refuse go) (profileTests p) Rejected (Passed (profileOf p))
 
     pub rejected : {r : Refusal} → checkedOf p ≡ Rejected r → refuse r ≡ onAccepted p refuse go
-    rejected e = sym (ap (decided refuse go) e) ∙ head
+    rejected e = sym (ap (onChecked refuse go) e) ∙ head
 
     pub passed : {q : Profile} → checkedOf p ≡ Passed q → go q ≡ onAccepted p refuse go
-    passed e = sym (ap (decided refuse go) e) ∙ head
+    passed e = sym (ap (onChecked refuse go) e) ∙ head
 
 -- Two calls that begin alike are alike if they are with an accepted profile.
 pub on-accepted-same : {X : Type 0} (p : Numbers) (refuse : Refusal → X) (f g : Profile → X)

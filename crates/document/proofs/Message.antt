@@ -51,7 +51,7 @@ module _ (r : Recording) (strips : Place → List ℕ) where
   abbrev pub fieldAt : Place → List ℕ
   fieldAt q = fieldOf 3 (stripContent q r (strips q))
 
-  pub fields-append : (qs rs : List Place)
+  fields-append : (qs rs : List Place)
       → stripFields r strips (qs ++ rs) ≡ stripFields r strips qs ++ stripFields r strips rs
   unfolding stripFields
   fields-append [] rs = refl
@@ -81,7 +81,7 @@ module _ (r : Recording) (strips : Place → List ℕ) where
         length-append (recordingBytes r) (strips q) ∙ ap₂ (λ (u v : ℕ). u + v) (recording-length r) whole in
         omega arith
 
-    pub strip-field-length : (q : Place) → Whole q → length (fieldAt q) ≡ stripFieldLength S
+    strip-field-length : (q : Place) → Whole q → length (fieldAt q) ≡ stripFieldLength S
     strip-field-length q whole = omega (arith, field-length 3 (stripContent q r (strips q)), content-length q whole)
 
     pub fields-length : {qs : List Place} → Each Whole qs → length (stripFields r strips qs) ≡ length qs * stripFieldLength S

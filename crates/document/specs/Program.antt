@@ -47,7 +47,7 @@ wantedRecording input = record {
   scenario = ((byteIn input 7 * 256 + byteIn input 8) * 256 + byteIn input 9) * 256 + byteIn input 10;
 }
 
--- A refusal's number is at most 10, and a bundle has at most 38 strips.
+-- A refusal's number has at most two digits, and a bundle has at most 38 strips.
 unfoldable pub decimal : ℕ → List ℕ
 decimal v = cond (ltb v 10) ((48 + v) ∷ []) ((48 + v / 10) ∷ (48 + v % 10) ∷ [])
 

@@ -25,9 +25,6 @@ use document::Recording;
 use document::Row;
 use fields::OPENING;
 pub use reader::check;
-pub use reader::fresh;
-pub use reader::opened;
-pub use reader::placed;
 
 // How many bytes the content of field 01 takes, and that of a field 03 before its strip.
 pub const PROFILE: usize = 6;
@@ -124,7 +121,7 @@ fn put_head(out: &mut [u8], p: Profile, content: &[u8]) -> usize
 }
 
 // Writes a field 03: a place, the recording and a strip.
-pub fn put_strip(out: &mut [u8], at: usize, r: Recording, q: Place, strip: &[u8]) -> usize
+fn put_strip(out: &mut [u8], at: usize, r: Recording, q: Place, strip: &[u8]) -> usize
     requires { ⌜ (q .node .0 < 256) × (q .row .0 < 256) × (length (now strip) ≤ 512)
         × (at + stripFieldLength (length (now strip)) ≤ length (now out)) ⌝ }
     ensures { λ next. ⌜ Wrote (now (out .entry)) at

@@ -25,7 +25,7 @@ use document::Refusal;
 use fields::OPENING;
 
 // Whether the field 03 that starts at `at` has its tag and its length.
-pub fn opened(p: Profile, b: &[u8], at: usize) -> bool
+fn opened(p: Profile, b: &[u8], at: usize) -> bool
     requires { ⌜ Accepted p × (at + openingLength ≤ length (now b)) ⌝ }
     ensures { λ r. ⌜ r ≡ Message.opened (p .s) (now (b .entry)) at ⌝ }
 {
@@ -35,7 +35,7 @@ pub fn opened(p: Profile, b: &[u8], at: usize) -> bool
 }
 
 // Whether it has the place q.
-pub fn placed(q: Place, b: &[u8], at: usize) -> bool
+fn placed(q: Place, b: &[u8], at: usize) -> bool
     requires { ⌜ at + openingLength + 2 ≤ length (now b) ⌝ }
     ensures { λ r. ⌜ r ≡ Message.placed q (now (b .entry)) at ⌝ }
 {
@@ -47,7 +47,7 @@ pub fn placed(q: Place, b: &[u8], at: usize) -> bool
 }
 
 // Whether it is of the wanted recording.
-pub fn fresh(r: Recording, b: &[u8], at: usize) -> bool
+fn fresh(r: Recording, b: &[u8], at: usize) -> bool
     requires { ⌜ at + openingLength + 2 + recordingLength ≤ length (now b) ⌝ }
     ensures { λ t. ⌜ t ≡ Message.fresh r (now (b .entry)) at ⌝ }
 {
