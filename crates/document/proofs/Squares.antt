@@ -239,7 +239,8 @@ module _ {m w : ℕ} {s t : List Line} (S : Shaped m w s) (T : UnitShaped m t) w
       }
 
   -- Each column has its pivot: the right half becomes the inverse.
-  pub regular : eliminated m w s t .verdict ≡ Regular → Inverse bytes m w (matrix s) (matrix (eliminated m w s t .lines))
+  pub regular : eliminated m w s t .verdict ≡ Regular
+      → Inverse bytes m w (matrix s) (matrix (eliminated m w s t .lines))
   unfolding Good
   regular e = rw e at ended
 

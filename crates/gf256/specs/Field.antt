@@ -73,8 +73,8 @@ unfoldable pub squares : ℕ → ℕ → ℕ
 squares zero a = 1
 squares (suc n) a = timesNext (squares n) (a ⊗ a)
 
--- 'Inverse of zero is given as 0; no other byte has inverse 0.' This is the 254th power, 254 being 2 + 4 + .. + 128. The
--- 255th power of every other byte is 1, so that the product with this is 1: `mul-inverse`, `inverse-zero` and
+-- 'Inverse of zero is given as 0; no other byte has inverse 0.' This is the 254th power, 254 being 2 + 4 + .. + 128.
+-- The 255th power of every other byte is 1, so that the product with this is 1: `mul-inverse`, `inverse-zero` and
 -- `inverse-above` in proofs/.
 unfoldable pub inverse : ℕ → ℕ
 inverse a = squares 7 a

@@ -1,7 +1,7 @@
-// The field of 256 elements. A product is had in two ways: by tables of the powers of 2 and of their logarithms, for single
-// bytes and for sums of many logarithms; and by the bits of a factor (`twice`, `times`), with shifts and exclusive ors
-// alone, for loops over strips. A table is copied whole where it is read, and a loop that reads one is not turned into
-// vectors.
+// The field of 256 elements. A product is had in two ways: by tables of the powers of 2 and of their logarithms, for
+// single bytes and for sums of many logarithms; and by the bits of a factor (`twice`, `times`), with shifts and
+// exclusive ors alone, for loops over strips. A table is copied whole where it is read, and a loop that reads one is
+// not turned into vectors.
 ghost use mathlib.Core.Path.{_≡_};
 ghost use Prim.Native.Nat.{_<_, _≤_};
 ghost use lib.ListN.{length};
@@ -34,8 +34,8 @@ pub fn twice(a: u8) -> u8
     (a << 1) ^ r
 }
 
-// The product, by the bits of s. `mul` gives the same by the tables; this form is for loops over strips, which the compiler
-// turns into vectors.
+// The product, by the bits of s. `mul` gives the same by the tables; this form is for loops over strips, which the
+// compiler turns into vectors.
 pub fn times(c: u8, s: u8) -> u8
     ensures { λ r. ⌜ r ≡ c ⊗ s ⌝ }
 {

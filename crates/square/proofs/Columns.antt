@@ -51,7 +51,8 @@ module _ {f : ℕ → List ℕ} {j rows : ℕ} {e : List ℕ} where
   pub gathered-none : rows ≤ length e → Gathered f j rows 0 e
   gathered-none h = record { room = h; held = λ k l. absurd (not-suc-le-zero l) }
 
-  pub gathered-more : {i v : ℕ} → Gathered f j rows i e → i < rows → Holds (f i) j v → Gathered f j rows (i + 1) (set e i v)
+  pub gathered-more : {i v : ℕ} → Gathered f j rows i e → i < rows → Holds (f i) j v
+      → Gathered f j rows (i + 1) (set e i v)
   gathered-more {i} {v} g h w = record { room = rw length-set (g .room); held = λ k l. go k l (ℕ-discrete k i) }
     where
       go : (k : ℕ) → k < i + 1 → Dec (k ≡ i) → Holds (f k) j (getD (set e i v) k 0)

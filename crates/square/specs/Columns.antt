@@ -1,12 +1,13 @@
 -- A column's entries, kept beside the square.
 --
 -- Holds x j v           : v is the entry of the line x in column j, which x reaches, and a byte
--- Gathered f j rows i e : e has room for rows entries, and holds those in column j of the first i of the lines f 0, f 1, ..
+-- Gathered f j rows i e : e has room for rows entries, and holds those in column j of the first i of the lines f 0,
+--                         f 1, ..
 -- EntriesOf s j rows e  : e holds the entries of column j in the lines of s below rows
 -- Multipliers e r v c   : c i is what line i is given of line r, so that the column with the entries e has 1 in line r,
 --                         where the pivot is v, and 0 elsewhere
--- Cleared c r rows b z  : z is b after the step that adds c i times line r to each line i below rows, with the entries of
---                         the column after r; of column 0 past the last of 80
+-- Cleared c r rows b z  : z is b after the step that adds c i times line r to each line i below rows, with the entries
+--                         of the column after r; of column 0 past the last of 80
 use mathlib.Core.Path.{_≡_}
 use mathlib.Core.Bool.{cond}
 use mathlib.Core.List.{List}

@@ -1,12 +1,12 @@
--- The elimination of a square, column by column. What stands beside the square goes through the same steps, as the right
--- half of an augmented matrix does: where it was the unit square, rows and columns are equally many and each column has a
--- pivot, it becomes the inverse (`regular` in document/proofs/Squares.antt).
+-- The elimination of a square, column by column. What stands beside the square goes through the same steps, as the
+-- right half of an augmented matrix does: where it was the unit square, rows and columns are equally many and each
+-- column has a pivot, it becomes the inverse (`regular` in document/proofs/Squares.antt).
 --
 -- atPivot p go none            : what is done with a pivot, and without one
 -- clearing rows r next b u     : column r cleared in b and its right half u, both handed on to next
 -- endFrom rows n r a t         : n columns to do from column r on, on the square a with the right half t
--- eliminated rows columns s t  : the elimination of s with the right half t: `Regular` and what became of t, or the first
---                                column that has no pivot and the square as it is then
+-- eliminated rows columns s t  : the elimination of s with the right half t: `Regular` and what became of t, or the
+--                                first column that has no pivot and the square as it is then
 -- singular v                   : the test whether a column has no pivot
 -- kernelFrom columns r a       : the vector that is read off a square a with no pivot in column r: the entries of the
 --                                column above line r, 1 at r, 0 below. The square takes it to zero (`stuck-kernel` in

@@ -1,5 +1,5 @@
--- A square as a list of lines, and the steps of its elimination. A column here is that of a matrix, not a node's. The lists
--- may have any lengths; an entry that is missing counts as 0.
+-- A square as a list of lines, and the steps of its elimination. A column here is that of a matrix, not a node's. The
+-- lists may have any lengths; an entry that is missing counts as 0.
 --
 -- noLine               : the line that stands past the end
 -- lineAt s i           : the entries of line i of s

@@ -1,6 +1,6 @@
-// A square of coefficients as an array of lines, passed by value through the steps of its elimination. A row of it is called
-// a line, since `Row` is the number of a strip's row. `rows` and `columns` say how many lines and columns count; they may
-// differ. 80 is the largest kA of an accepted profile.
+// A square of coefficients as an array of lines, passed by value through the steps of its elimination. A row of it is
+// called a line, since `Row` is the number of a strip's row. `rows` and `columns` say how many lines and columns count;
+// they may differ. 80 is the largest kA of an accepted profile.
 ghost use mathlib.Core.Path.{_≡_};
 ghost use mathlib.Core.Bool.{cond};
 ghost use mathlib.Core.List.{List};
@@ -29,16 +29,16 @@ pub enum Verdict {
     Singular(usize),
 }
 
-// The square as far as it is reduced, with the entries of the column that is next. Each function that takes the square by
-// value copies it, so the pivot is looked for and the multipliers are computed in the entries alone.
+// The square as far as it is reduced, with the entries of the column that is next. Each function that takes the square
+// by value copies it, so the pivot is looked for and the multipliers are computed in the entries alone.
 struct Left {
     lines: [Line; 80],
     entries: [u8; 80],
 }
 
-// What an elimination comes to: with `Regular` the first lines are those of the inverse, if rows and columns are equally
-// many; with `Singular` those of the square as far as it is reduced, from which a vector is read off that the square takes
-// to zero.
+// What an elimination comes to: with `Regular` the first lines are those of the inverse, if rows and columns are
+// equally many; with `Singular` those of the square as far as it is reduced, from which a vector is read off that the
+// square takes to zero.
 pub struct Eliminated {
     pub verdict: Verdict,
     pub lines: [Line; 80],
@@ -111,9 +111,9 @@ fn after(r: usize) -> usize
     r + 1
 }
 
-// Line r is lifted by line p, and to each line i below `rows` is added c(i) times line r; a line with the multiplier 0 is
-// left alone. The entries past the last column nobody asks for. Lines are read from the copy: read from s, they would make
-// the compiler copy the square once more.
+// Line r is lifted by line p, and to each line i below `rows` is added c(i) times line r; a line with the multiplier 0
+// is left alone. The entries past the last column nobody asks for. Lines are read from the copy: read from s, they
+// would make the compiler copy the square once more.
 fn clear(s: Left, r: usize, p: usize, c: [u8; 80], rows: usize) -> Left
     requires { ⌜ (r < 80) × (p < 80) × (rows ≤ 80) × (rows ≤ length (s .entries)) ⌝ }
     ensures { λ z. ⌜ Cleared (λ i. getD c i 0) r rows (lifted r p (s .lines)) z ⌝ }

@@ -1,5 +1,5 @@
--- `gf256::times` meets its contract. The loop follows `bitProduct`: the sum so far, with the product of x and the n lowest
--- bits of y, is the product.
+-- `gf256::times` meets its contract. The loop follows `bitProduct`: the sum so far, with the product of x and the n
+-- lowest bits of y, is the product.
 use mathlib.Core.Path.{_≡_, sym, ap₂, _∙_}
 use mathlib.Core.Logic.{⊎-elim}
 use Prim.Native.Nat.{ℕ, suc, _*_, _/_, _%_, _-_, _<_}
@@ -60,4 +60,12 @@ returns c =
 pub times-spec : {M : Type 1} → statement M
 times-spec =
     tie.close
-    (tie.spec Inv-loop μ-loop loop-holds (λ c κs. search needs) (λ c. search needs) (λ c. search needs) loop-again returns)
+    (tie.spec
+    Inv-loop
+    μ-loop
+    loop-holds
+    (λ c κs. search needs)
+    (λ c. search needs)
+    (λ c. search needs)
+    loop-again
+    returns)

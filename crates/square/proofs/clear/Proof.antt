@@ -1,14 +1,15 @@
 -- `square::clear` meets its contract. The loop's invariant: the lines passed are stepped, the others as they were, and
--- the entries of the lines passed are gathered. A line with the multiplier 0 is left alone, which is what adding 0 times
--- a line gives.
+-- the entries of the lines passed are gathered. A line with the multiplier 0 is left alone, which is what adding 0
+-- times a line gives.
 use mathlib.Core.Path.{_≡_}
 use mathlib.Core.Logic.{⊎-elim}
 use Prim.Native.Nat.{_-_, _≤_}
 use native.Mathlib.Omega.{arith}
 use lib.ListN.{getD}
 use Rattle.square.specs.Columns.{Gathered}
-use Rattle.square.proofs.Columns.{gathered-none, gathered-more, gathered-of, stepLine, Stepping, stepping-none}
-use Rattle.square.proofs.Columns.{step-added, step-none, stepping-next, stepping-skip, stepping-line, stepping-all}
+use Rattle.square.proofs.Columns.{gathered-none, gathered-more, gathered-of, stepLine, Stepping}
+use Rattle.square.proofs.Columns.{stepping-none, stepping-next, stepping-skip, stepping-line, stepping-all}
+use Rattle.square.proofs.Columns.{step-added, step-none}
 use borrow.Author.Needs.{needs}
 use Rattle.square.proofs.clear.Statement.{statement}
 use Rattle.square.proofs.clear.Tie as tie

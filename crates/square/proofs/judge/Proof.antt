@@ -1,5 +1,5 @@
--- `square::judge` meets its contract. The loop keeps no right half, so the invariant says of some right half what that of
--- `invert` says of the one it keeps.
+-- `square::judge` meets its contract. The loop keeps no right half, so the invariant says of some right half what that
+-- of `invert` says of the one it keeps.
 use mathlib.Core.Path.{refl, ap}
 use mathlib.Core.List.{List}
 use Prim.Native.Nat.{_-_, _<_}

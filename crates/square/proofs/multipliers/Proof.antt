@@ -1,5 +1,5 @@
--- `square::multipliers` meets its contract: 0 plus v times each entry, and 1 ⊕ v in line r, where v is the inverse of the
--- pivot.
+-- `square::multipliers` meets its contract: 0 plus v times each entry, and 1 ⊕ v in line r, where v is the inverse of
+-- the pivot.
 use mathlib.Core.Path.{_≡_, ap, ap₂, _∙_}
 use mathlib.Core.Bool.{cond}
 use mathlib.Core.List.{List}

@@ -1,5 +1,5 @@
--- `square::unit_square` meets its contract. The loop's invariant: the lines passed have their 1, the others are zeros; 80
--- of them are all.
+-- `square::unit_square` meets its contract. The loop's invariant: the lines passed have their 1, the others are zeros;
+-- 80 of them are all.
 use mathlib.Core.Path.{_≡_, ap, ap₂, _∙_}
 use mathlib.Core.List.{List}
 use Prim.Native.Nat.{ℕ, _-_, _≤_, _<_}
@@ -28,7 +28,8 @@ loop-holds : tie.Need-loop-holds Inv-loop μ-loop
 loop-holds c = (search needs, filled-none _ _)
 
 -- the line to be written next
-next : (z : List Line) (i : ℕ) → i < 80 → z ≡ filled unitAt (replicate 80 zeros) i → set (lineAt z i) i 1 ≡ unitLine 80 i
+next : (z : List Line) (i : ℕ) → i < 80 → z ≡ filled unitAt (replicate 80 zeros) i
+    → set (lineAt z i) i 1 ≡ unitLine 80 i
 next z i h e =
     ap (λ (x : List ℕ). set x i 1)
     (ap (λ (x : List Line). lineAt x i) e

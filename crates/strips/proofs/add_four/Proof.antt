@@ -11,7 +11,8 @@ use Rattle.strips.proofs.add_four.Statement.{statement}
 use Rattle.strips.proofs.add_four.Tie as tie
 
 abbrev Inv-loop : tie.InvT-loop
-Inv-loop dst₀ s0 s1 s2 s3 doubled b₀ dst b = Written (λ b. sumFour (doubledIf doubled (getD dst₀ b 0)) s0 s1 s2 s3 b) b dst₀ dst
+Inv-loop dst₀ s0 s1 s2 s3 doubled b₀ dst b =
+    Written (λ b. sumFour (doubledIf doubled (getD dst₀ b 0)) s0 s1 s2 s3 b) b dst₀ dst
 
 abbrev μ-loop : tie.MeasureT-loop
 μ-loop dst₀ s0 s1 s2 s3 doubled b₀ dst b = length dst₀ - b
