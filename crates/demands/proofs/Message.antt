@@ -1,7 +1,7 @@
 -- A message to read: where its fields stand, in document 01's numbers, and what a reader's tests decide.
 --
--- AsWanted p content r qs b : the message b is as wanted: what holds of it exactly where no line of `messageSentences` does
---                             (wanted-none, refuted-wanted)
+-- AsWanted p content r qs b : the message b is as wanted: what holds of it exactly where no line of `messageSentences`
+--                             does (wanted-none, refuted-wanted)
 use mathlib.Core.Path.{_≡_, refl, sym, ap, ap₂, _∙_}
 use mathlib.Core.List.{List, _∷_, _++_}
 use Prim.Native.Nat.{ℕ, _+_, _*_, _<_}

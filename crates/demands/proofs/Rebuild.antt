@@ -63,7 +63,8 @@ rebuild-decided : (p : Profile) (f : Node) (r : Recording) (b y : List ℕ)
 unfolding rebuildTests rebuildSentences bundleTests bundleSentences lostContent recordingBytes fourBytes
 rebuild-decided p f r b y =
     line refl (decides-not _ (decides-lt (f .0) (p .n)))
-    (λ h. line refl (decides-not _ (decides-eq (length y) (p .a * p .s))) (λ l. message-decided p (lostContent f r) r (planned p f) b))
+    (λ h. line refl (decides-not _ (decides-eq (length y) (p .a * p .s)))
+    (λ l. message-decided p (lostContent f r) r (planned p f) b))
 
 module _ (p : Numbers) (f : ℕ) (r : Recording) (b y : List ℕ) where
   abbrev profile : Profile
@@ -85,7 +86,8 @@ module _ (p : Numbers) (f : ℕ) (r : Recording) (b y : List ℕ) where
   rebuild-call =
       call-for p y (λ q. rebuildTests q lost r b y) (λ q. rebuildSentences q lost r b y) (λ q. 0) rebuilt
       (λ acc. rebuild-decided _ lost r b y)
-      (ap (λ (l : List (ℕ × ℕ)). (4, 0) ∷ (5, 0) ∷ l) (message-numbered profile (lostContent lost r) r (planned profile lost) b))
+      (ap (λ (l : List (ℕ × ℕ)). (4, 0) ∷ (5, 0) ∷ l)
+      (message-numbered profile (lostContent lost r) r (planned profile lost) b))
 
   pub demand-1-rebuild : Demand1Rebuild p f r b y
   demand-1-rebuild = rebuild-call .exactly
@@ -112,7 +114,8 @@ module _ (p : Numbers) (f : ℕ) (r : Recording) (b y : List ℕ) where
     sound = walk-sound profile acc lost below
 
     -- the strips of the bundle are whole
-    strips-whole : Bytes b → (i : ℕ) → i < P → (length (bundleStrip profile b i) ≡ p .s) × Bytes (bundleStrip profile b i)
+    strips-whole : Bytes b → (i : ℕ) → i < P
+        → (length (bundleStrip profile b i) ≡ p .s) × Bytes (bundleStrip profile b i)
     unfolding stripIn stripFieldStart lostContent recordingBytes fourBytes
     strips-whole small i l =
         (size, λ o m. rw (slice-at b _ (p .s) o (omega (arith, size))) (small _ (omega (arith, size, within))))
@@ -124,7 +127,8 @@ module _ (p : Numbers) (f : ℕ) (r : Recording) (b y : List ℕ) where
         size = slice-length b _ (p .s) (omega (arith, within))
 
     -- the column is that of every encoded array with the strips of the bundle
-    column-done : (x : List ℕ) → EncodedArray profile x → HasStrips profile (planned profile lost) x (bundleStrip profile b)
+    column-done : (x : List ℕ) → EncodedArray profile x
+        → HasStrips profile (planned profile lost) x (bundleStrip profile b)
         → rebuildOf p f r b y .1 ≡ columnIn profile x f
     unfolding rebuiltOf planned
     column-done x E has =
@@ -137,7 +141,8 @@ module _ (p : Numbers) (f : ℕ) (r : Recording) (b y : List ℕ) where
         → rebuilt profile ≡ rebuiltOf profile lost c (firstStrip profile) (stripFieldLength (p .s))
     unfolding rebuiltOf planned
     column-same c =
-        same-rebuilt profile acc lost below (walkOf profile lost) sound _ _ (bundleStrip profile b) (bundleStrip profile c)
+        same-rebuilt profile acc lost below (walkOf profile lost) sound _ _ (bundleStrip profile b)
+        (bundleStrip profile c)
         (bundle-gives profile acc lost below (walkOf profile lost) sound b)
         (bundle-gives profile acc lost below (walkOf profile lost) sound c)
 

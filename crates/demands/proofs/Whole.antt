@@ -116,7 +116,8 @@ module _ (x y : List ℕ) where
 -- ---- all its bytes: it is the message written with its strips
 module _ (p : Profile) (content : List ℕ) (r : Recording) (strips : Place → List ℕ) {qs : List Place} (b : List ℕ)
     (whole : Each (Whole r strips (p .s)) qs) (w : AsWanted p content r qs b)
-    (has : (i : ℕ) → i < length qs → strips (placeAt qs i) ≡ stripIn (p .s) b (stripFieldStart p (length content) i)) where
+    (has : (i : ℕ) → i < length qs
+    → strips (placeAt qs i) ≡ stripIn (p .s) b (stripFieldStart p (length content) i)) where
   abbrev written : List ℕ
   written = messageOf p content r strips qs
 
@@ -195,7 +196,8 @@ module _ (p : Profile) (content : List ℕ) (r : Recording) (strips : Place → 
       ext-getD 0 b written (total ∙ sym (message-length p content r strips whole))
       (λ o m. alike-join b written 0 h (messageLength p (length content) (length qs))
       (alike-join b written 0 (profileFieldLength p) h first second)
-      (alike-parts b written h (stripFieldLength (p .s)) (length qs) strip-field) o (omega arith) (omega (arith, total)))
+      (alike-parts b written h (stripFieldLength (p .s)) (length qs) strip-field)
+      o (omega arith) (omega (arith, total)))
     where
       total : length b ≡ messageLength p (length content) (length qs)
       total = w .is-formed .total ∙ sym (length-is p (length content) (length qs))

@@ -57,7 +57,8 @@ module _ (p : Numbers) (f : ℕ) (r : Recording) (x b : List ℕ) where
     -- the fields of document 01, 'once a planned place in plan order'
     pub holds : written ≡ bundleOf (profileOf p) (record { 0 = f }) r x
     -- 'it takes its strips from the planned places'
-    pub strips : HasStrips (profileOf p) (planned (profileOf p) (record { 0 = f })) x (bundleStrip (profileOf p) written)
+    pub strips : HasStrips (profileOf p) (planned (profileOf p) (record { 0 = f })) x
+        (bundleStrip (profileOf p) written)
     -- 'Length: 17 + P(9+S), P the number of places.'
     pub size : length written ≡ 17 + priceOf (p .n) (p .k) (p .a) * (9 + p .s)
     -- 'On success the answer is 0, with .. the length for a bundle'
@@ -76,7 +77,7 @@ pub record CutFrom (p : Numbers) (f : ℕ) (x : List ℕ) (r : Recording) (b : L
   pub leaves : writeOf p f r x lent .1 ≡ b
 
 -- ---- a bundle to read
--- '02, length 5: lost node, scenario number in four bytes.' A scenario of 2^32 or more would count by its lowest 32 bits;
--- its type rules it out.
+-- '02, length 5: lost node, scenario number in four bytes.' A scenario of 2^32 or more would count by its lowest 32
+-- bits; its type rules it out.
 unfoldable pub bundleSentences : Profile → Node → Recording → List ℕ → List Sentence
 bundleSentences p f r b = messageSentences p 5 (f .0 ∷ fourBytes (r .scenario)) r (planned p f) b

@@ -84,7 +84,8 @@ module _ (r : Recording) (strips : Place → List ℕ) where
     strip-field-length : (q : Place) → Whole q → length (fieldAt q) ≡ stripFieldLength S
     strip-field-length q whole = omega (arith, field-length 3 (stripContent q r (strips q)), content-length q whole)
 
-    pub fields-length : {qs : List Place} → Each Whole qs → length (stripFields r strips qs) ≡ length qs * stripFieldLength S
+    pub fields-length : {qs : List Place} → Each Whole qs
+        → length (stripFields r strips qs) ≡ length qs * stripFieldLength S
     unfolding stripFields
     fields-length none = sym (zero-mul (stripFieldLength S))
     fields-length (also {x = q} {xs = qs} w ws) =

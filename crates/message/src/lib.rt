@@ -1,6 +1,6 @@
 // Messages: field 01 with the profile, a field 02 with some content, and a field 03 for each place of some list. The
-// download bundle is one. Written, and compared by a reader with what is wanted (reader.rt). A list of places is two bytes
-// a place, node first.
+// download bundle is one. Written, and compared by a reader with what is wanted (reader.rt). A list of places is two
+// bytes a place, node first.
 ghost use mathlib.Core.Path.{_≡_};
 ghost use mathlib.Core.List.{_++_};
 ghost use Prim.Native.Nat.{_+_, _*_, _/_, _<_, _≤_};

@@ -35,7 +35,8 @@ check-requires : tie.Need-check-requires
 check-requires c κs =
     let w = c .before .before .before in
     let s = start w in
-    (s .pre .0, bundle-bounded _ (s .pre .0) _ (s .pre .1) (w .put-plan .ensures) _ (w .before .before .lost-content .ensures))
+    let content = w .before .before .lost-content .ensures in
+    (s .pre .0, bundle-bounded _ (s .pre .0) _ (s .pre .1) (w .put-plan .ensures) _ content)
 
 returns : tie.Need-returns
 unfolding bundleTests

@@ -28,7 +28,8 @@ module _ (c : tie.After-bundle-length) where
   size : c .bundle-length .result ≡ bundleLength (start node .args .p) (start node .args .f)
   size =
       c .bundle-length .ensures
-      ∙ sym (ap (messageLength (start node .args .p) lostContentLength) (planned-price _ (start node .pre) _ (known node)))
+      ∙ sym (ap (messageLength (start node .args .p) lostContentLength)
+      (planned-price _ (start node .pre) _ (known node)))
 
 returns : tie.Need-returns
 returns c = node-refused _ _ _ _ _ (c .if1 .taken)

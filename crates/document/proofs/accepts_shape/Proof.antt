@@ -40,4 +40,13 @@ returns-7 c =
 pub accepts-shape-spec : {M : Type 1} → statement M
 accepts-shape-spec =
     tie.close
-    (tie.spec returns returns-2 returns-3 returns-4 (λ c. search needs) returns-5 (λ c. search needs) returns-6 returns-7)
+    (tie.spec
+    returns
+    returns-2
+    returns-3
+    returns-4
+    (λ c. search needs)
+    returns-5
+    (λ c. search needs)
+    returns-6
+    returns-7)

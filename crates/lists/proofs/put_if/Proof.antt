@@ -12,4 +12,11 @@ returns-2 c = rw (c .if1 .left) (wrote-none _ _)
 
 pub put-if-spec : {M : Type 1} → statement M
 put-if-spec =
-    tie.close (tie.spec (λ c. search needs) (λ c. search needs) (λ c. search needs) (λ c. search needs) returns returns-2)
+    tie.close
+    (tie.spec
+    (λ c. search needs)
+    (λ c. search needs)
+    (λ c. search needs)
+    (λ c. search needs)
+    returns
+    returns-2)

@@ -66,7 +66,8 @@ returns c =
     let w = c .before .before in
     let a = w .before .before .before .before in
     let s = start-of a in
-    wrote-same (ap (λ (v : List ℕ). fieldOf 3 (stripContent (s .args .q) (s .args .r) v)) (part-is _ _ _ _ (a .start .ensures)))
+    wrote-same
+    (ap (λ (v : List ℕ). fieldOf 3 (stripContent (s .args .q) (s .args .r) v)) (part-is _ _ _ _ (a .start .ensures)))
     (w .put-strip .ensures)
 
 pub put-strip-of-spec : {M : Type 1} → statement M

@@ -91,7 +91,8 @@ returns c =
     let bs = s .args .places .now in
     let all : l .i ≡ length bs / 2 = omega (arith, l .inv .0, c .loop-test .left) in
     wrote-same
-    (ap (λ (m : ℕ). stripFields (s .args .r) (stripOf (s .args .p) (s .args .array .now)) (listed m (placeFrom bs))) all)
+    (ap (λ (m : ℕ). stripFields (s .args .r) (stripOf (s .args .p) (s .args .array .now)) (listed m (placeFrom bs)))
+    all)
     (l .inv .2)
 
 pub put-strips-spec : {M : Type 1} → statement M

@@ -1,4 +1,4 @@
--- `message::reader::first_misplaced` meets its contract. The invariant: the strips passed are placed as the list has it.
+-- `message::reader::first_misplaced` meets its contract. The invariant: the strips passed have the places of the list.
 use mathlib.Core.Path.{sym, ap₂, _∙_}
 use Prim.Native.Nat.{_-_, _≤_, zero-le}
 use native.Mathlib.Omega.{arith}
@@ -37,14 +37,20 @@ returns : tie.Need-returns Inv-loop μ-loop
 returns c =
     let f = c .before in
     let l = f .before .before .before .before in
-    let same = f .placed .ensures ∙ ap₂ (λ q. placed q (l .before .before .before .args .b .now)) (f .before .before .place-at .ensures) (f .before .strip-field .ensures) in
+    let b = l .before .before .before .args .b .now in
+    let at = f .before in
+    let same =
+    f .placed .ensures ∙ ap₂ (λ q. placed q b) (at .before .place-at .ensures) (at .strip-field .ensures) in
     found _ _ _ (omega arith) (l .loop .inv .1) (sym same ∙ not-true _ (c .if1 .taken))
 
 loop-again : tie.Need-loop-again Inv-loop μ-loop
 loop-again c =
     let f = c .before in
     let l = f .before .before .before .before in
-    let same = f .placed .ensures ∙ ap₂ (λ q. placed q (l .before .before .before .args .b .now)) (f .before .before .place-at .ensures) (f .before .strip-field .ensures) in
+    let b = l .before .before .before .args .b .now in
+    let at = f .before in
+    let same =
+    f .placed .ensures ∙ ap₂ (λ q. placed q b) (at .before .place-at .ensures) (at .strip-field .ensures) in
     (omega arith, below-next _ _ (l .loop .inv .1) (sym same ∙ not-false _ (c .if1 .left)))
 
 returns-2 : tie.Need-returns-2 Inv-loop μ-loop

@@ -41,7 +41,8 @@ same-at-requires c κs = omega (arith, head-room _ _ _ (fits (c .before)))
 
 returns-2 : tie.Need-returns-2
 returns-2 c =
-    not-first _ _ _ _ (whole (c .before .before .before)) (sym (c .before .same-at .ensures) ∙ not-true _ (c .if2 .taken))
+    not-first _ _ _ _ (whole (c .before .before .before))
+    (sym (c .before .same-at .ensures) ∙ not-true _ (c .if2 .taken))
 
 same-at-requires-2 : tie.Need-same-at-requires-2
 same-at-requires-2 c κs =
