@@ -13,7 +13,7 @@ use Rattle.algebra.specs.Square.{
   dot,
   unit,
   Matrix,
-  times,
+  image,
   Solves,
   Kernel,
   Inverse,
@@ -67,7 +67,7 @@ module _ (K : Field) where
 
   -- A step adds the multiples of what row p gives.
   step-times : (m w p : ℕ) (c : ℕ → F) (M N : Matrix K) → Step K m w p c M N
-      → (v : ℕ → F) (i : ℕ) → i < m → times K w N v i ≡ times K w M v i ⊕ c i ⊗ times K w M v p
+      → (v : ℕ → F) (i : ℕ) → i < m → image K w N v i ≡ image K w M v i ⊕ c i ⊗ image K w M v p
   step-times m w p c M N s v i l = dot-ext K w (λ j h. s i j l h) (λ j h. refl) ∙ dot-combine K w (M i) (M p) v (c i)
 
   -- The sum of two equations that have been through a step.
@@ -95,21 +95,21 @@ module _ (K : Field) where
       → Step K m w p c N N′ → Step K m m p c T T′ → Reached K m w M N T → Reached K m w M N′ T′
   reached-step m w p c M N T N′ T′ l kept s t R = record { forth = forth; back = back }
     where
-      forth : (b v : ℕ → F) → Solves K m w M b v → Solves K m w N′ (times K m T′ b) v
+      forth : (b v : ℕ → F) → Solves K m w M b v → Solves K m w N′ (image K m T′ b) v
       forth b v h i k =
           step-times m w p c N N′ s v i k ∙ ap₂ (λ x y. x ⊕ c i ⊗ y) (R .forth b v h i k) (R .forth b v h p l)
           ∙ sym (step-times m m p c T T′ t b i k)
 
-      back : (b v : ℕ → F) → Solves K m w N′ (times K m T′ b) v → Solves K m w M b v
+      back : (b v : ℕ → F) → Solves K m w N′ (image K m T′ b) v → Solves K m w M b v
       back b v h = R .back b v
-          (undo m p c (times K w N v) (times K m T b) l kept
+          (undo m p c (image K w N v) (image K m T b) l kept
           (λ i k. sym (step-times m w p c N N′ s v i k) ∙ h i k ∙ step-times m m p c T T′ t b i k))
 
   -- All columns are done: the steps made the inverse.
   pub finish : (m w : ℕ) (M N T : Matrix K) → w ≤ m → Reached K m w M N T → Reduced K w m N → Inverse K m w M T
   finish m w M N T q R U = record {
     unique = λ b v h j l. sym (at v j l) ∙ R .forth b v h j (omega arith);
-    solves = λ e b. R .back b (times K m T b) (λ i l. at (times K m T b) i (omega arith));
+    solves = λ e b. R .back b (image K m T b) (λ i l. at (image K m T b) i (omega arith));
   }
     where
       at : (u : ℕ → F) (i : ℕ) → i < w → dot K w (N i) u ≡ u i
@@ -264,8 +264,8 @@ module _ (K : Field) where
         dot-ext K w (λ j h. sym (e i j k h)) (λ j h. sym (right b j h)) ∙ I .solves q b i k;
   }
     where
-      left : (v : ℕ → F) (i : ℕ) → i < m → times K w M v i ≡ times K w N v i
+      left : (v : ℕ → F) (i : ℕ) → i < m → image K w M v i ≡ image K w N v i
       left v i k = dot-ext K w (λ j h. e i j k h) (λ j h. refl)
 
-      right : (b : ℕ → F) (i : ℕ) → i < w → times K m T b i ≡ times K m S b i
+      right : (b : ℕ → F) (i : ℕ) → i < w → image K m T b i ≡ image K m S b i
       right b i k = dot-ext K m (λ j h. f i j k h) (λ j h. refl)

@@ -10,7 +10,7 @@ use lib.Arith.{digits-lt}
 use Rattle.algebra.specs.Field.{Field}
 use Rattle.algebra.specs.Sum.{sum}
 use Rattle.algebra.specs.Square.{dot}
-use Rattle.algebra.specs.Polynomial.{Distinct}
+use Rattle.algebra.specs.Polynomial.{DistinctPoints}
 use Rattle.algebra.specs.Weight.{weight}
 use Rattle.algebra.specs.RowCode.{Choice, Codeword}
 use Rattle.algebra.specs.Coupling.{Array, partnerNode, stored, factor}
@@ -29,7 +29,7 @@ module _ (K : Field) (k : ℕ) (point : ℕ → K .carrier) where
   open Field K using (mul as _⊗_)
 
   -- The base array has the data at the first k nodes.
-  pub symbols-data : Distinct K k point → (d : Array K) (i j : ℕ) → j < k → symbols K k point d i j ≡ d i j
+  pub symbols-data : DistinctPoints K k point → (d : Array K) (i j : ℕ) → j < k → symbols K k point d i j ≡ d i j
   unfolding symbols
   symbols-data first d i j l =
       sum-one K k j (λ q. d i q ⊗ weight K k point q (point j)) l
@@ -109,7 +109,7 @@ module _ (K : Field) (c : ℕ → ℕ → K .carrier) where
   -- n nodes in G groups of A, with different points; the constants of the lower strips are neither 0 nor 1.
   module _ (A n k G : ℕ) (point : ℕ → K .carrier)
       (c≢𝟘 : (i l : ℕ) → i < A → l < i → c i l ≢ 𝟘) (c≢𝟙 : (i l : ℕ) → i < A → l < i → c i l ≢ 𝟙)
-      (A>0 : 0 < A) (n-is : n ≡ G * A) (distinct : Distinct K n point) where
+      (A>0 : 0 < A) (n-is : n ≡ G * A) (distinct : DistinctPoints K n point) where
     -- The coupled code with document 01's factors.
     abbrev pub code : Code K
     code = record {
@@ -145,7 +145,7 @@ module _ (K : Field) (c : ℕ → ℕ → K .carrier) where
         (ap (λ z. factor K c i (j % A) ⊗ z)
         (same (j % A) (partnerNode A i j) (mod-lt j A>0) (code .partners i j l h)))
       where
-        first : Distinct K k point
+        first : DistinctPoints K k point
         first i j h l = distinct i j h (omega arith)
 
         data-nodes : Choice k n (λ q. q)

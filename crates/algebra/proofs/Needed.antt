@@ -12,7 +12,7 @@ use Rattle.algebra.specs.Weight.{weight}
 use Rattle.algebra.specs.RowCode.{Choice}
 use Rattle.algebra.specs.Coupling.{Array, partnerNode, pair, base}
 use Rattle.algebra.specs.Encoding.{Code}
-use Rattle.algebra.specs.Rebuild.{rowAt, otherAt, rebuiltAt, Planned, own, chosen, partner, Needed}
+use Rattle.algebra.specs.Rebuild.{rowSymbol, otherAt, rebuiltAt, Planned, own, chosen, partner, Needed}
 use Rattle.algebra.proofs.Field.{
   add-zero,
   zero-add,
@@ -112,14 +112,14 @@ module _ (K : Field) (C : Code K) (f : ℕ) (s : ℕ → ℕ) (f<n : f < C .n) (
 
   -- Row c is zero where its base symbols are zero at the chosen nodes.
   row-zero : (x : Array K) → ((q : ℕ) → q < k → base-at x q ≡ 𝟘) → (j : ℕ) → row K C f s x j ≡ 𝟘
-  unfolding rowAt
+  unfolding rowSymbol
   row-zero x h j =
       sum-zero K k (λ q l. ap (λ z. z ⊗ weight K k (λ q. point (s q)) q (point j)) (h q l) ∙ zero-mul K _)
 
   -- Just one base symbol of row c that is not zero shows on the lost column, in row c.
   row-one : (x : Array K) (p : ℕ) → p < k → base-at x p ≢ 𝟘 → ((q : ℕ) → q < k → q ≢ p → base-at x q ≡ 𝟘)
       → lost-column x c ≢ 𝟘
-  unfolding rebuiltAt rowAt
+  unfolding rebuiltAt rowSymbol
   row-one x p l d z e =
       mul-ne-zero K (base-at x p) (w p) d weighs
       (sym (sum-one K k p (λ q. base-at x q ⊗ w q) l (λ q h m. ap (λ b. b ⊗ w q) (z q h m) ∙ zero-mul K (w q)))

@@ -8,7 +8,7 @@ use native.Mathlib.Decide.{ℕ-discrete, decLt}
 use lib.ListN.{length, length-map}
 use Rattle.algebra.specs.Field.{Field}
 use Rattle.algebra.specs.Sum.{sum}
-use Rattle.algebra.specs.Polynomial.{eval, Polynomial, Distinct, Avoids}
+use Rattle.algebra.specs.Polynomial.{eval, Polynomial, DistinctPoints, Avoids}
 use Rattle.algebra.proofs.Field.{
   ring,
   add-zero,
@@ -27,7 +27,7 @@ module _ (K : Field) where
   open Field K using (carrier as F, 𝟘, 𝟙, add as _⊕_, mul as _⊗_, inv)
 
   -- Any of the first k distinct points avoids the others.
-  pub apart : (k : ℕ) (x : ℕ → F) → Distinct K k x → (j : ℕ) → j < k → Avoids K k x j (x j)
+  pub apart : (k : ℕ) (x : ℕ → F) → DistinctPoints K k x → (j : ℕ) → j < k → Avoids K k x j (x j)
   apart k x d j h i l n = go (decLt i j)
     where
       go : Dec (i < j) → x j ≢ x i
@@ -85,21 +85,21 @@ module _ (K : Field) where
   Roots k x p = (i : ℕ) → i < k → eval K p (x i) ≡ 𝟘
 
   -- The quotient by x + x k has the other roots.
-  root-quotient : (k : ℕ) (x : ℕ → F) → Distinct K (suc k) x → (c : F) (p : List F)
+  root-quotient : (k : ℕ) (x : ℕ → F) → DistinctPoints K (suc k) x → (c : F) (p : List F)
       → Roots (suc k) x (c ∷ p) → Roots k x (quotient (x k) p)
   root-quotient k x d c p h i m =
       mul-eq-zero K (x i ⊕ x k) (eval K (quotient (x k) p) (x i)) (add-ne-zero K (x i) (x k) (d i k m (omega arith)))
       (rw (h i (omega arith), h k (omega arith), zero-add) at (sym (factor-theorem (x k) c p (x i))))
 
   -- A polynomial with no more coefficients than it has roots is zero everywhere.
-  pub roots : (k : ℕ) (x : ℕ → F) → Distinct K k x → (p : List F) → length p ≤ k → Roots k x p
+  pub roots : (k : ℕ) (x : ℕ → F) → DistinctPoints K k x → (p : List F) → length p ≤ k → Roots k x p
       → (z : F) → eval K p z ≡ 𝟘
   unfolding eval
   roots zero x d [] l h z = refl
   roots zero x d (c ∷ p) l h z = absurd (omega arith)
   roots (suc k) x d [] l h z = refl
   roots (suc k) x d (c ∷ p) l h z =
-      let fewer : Distinct K k x = λ i j m n. d i j m (omega arith) in
+      let fewer : DistinctPoints K k x = λ i j m n. d i j m (omega arith) in
       let q : List F = quotient (x k) p in
       let short : length q ≤ k = omega (arith, length-quotient (x k) p) in
       let none : eval K q z ≡ 𝟘 = roots k x fewer q short (root-quotient k x d c p h) z in
@@ -110,7 +110,7 @@ module _ (K : Field) where
   Through k x y = (p : List F) × (length p ≡ k) × ((i : ℕ) → i < k → eval K p (x i) ≡ y i)
 
   -- Through k distinct points passes a polynomial of k coefficients.
-  pub interpolate : (k : ℕ) (x y : ℕ → F) → Distinct K k x → Through k x y
+  pub interpolate : (k : ℕ) (x y : ℕ → F) → DistinctPoints K k x → Through k x y
   interpolate zero x y d = ([], refl, λ i l. absurd (omega arith))
   interpolate (suc k) x y d = go (interpolate k x slope (λ i j m n. d i j m (omega arith)))
     where
@@ -209,7 +209,7 @@ module _ (K : Field) where
   poly-sum (suc n) f P = poly-add (poly-sum n f (λ i l. P i (omega arith))) (P n (omega arith))
 
   -- Two polynomials of degree below k that agree at k distinct points agree everywhere.
-  pub agree : (k : ℕ) (x : ℕ → F) → Distinct K k x → {f g : F → F} → Polynomial K k f → Polynomial K k g
+  pub agree : (k : ℕ) (x : ℕ → F) → DistinctPoints K k x → {f g : F → F} → Polynomial K k f → Polynomial K k g
       → ((i : ℕ) → i < k → f (x i) ≡ g (x i)) → (z : F) → f z ≡ g z
   agree k x d {f} {g} P Q h z =
       eq-of-add K (f z) (g z) (S .value z ∙ roots k x d (S .coefficients) (S .degree) zero-at z)

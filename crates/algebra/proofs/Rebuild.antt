@@ -13,7 +13,7 @@ use Rattle.algebra.specs.Weight.{weight}
 use Rattle.algebra.specs.RowCode.{Choice, Codeword}
 use Rattle.algebra.specs.Coupling.{Array, partnerNode, stored, base}
 use Rattle.algebra.specs.Encoding.{Code, Encoded}
-use Rattle.algebra.specs.Rebuild.{rowAt, otherAt, rebuiltAt, own, chosen, partner, Agree}
+use Rattle.algebra.specs.Rebuild.{rowSymbol, otherAt, rebuiltAt, own, chosen, partner, Agree}
 use Rattle.algebra.proofs.Field.{ring, add-zero, zero-mul, mul-inv-left, inv-mul-left}
 use Rattle.algebra.proofs.Pick.{pick-yes, pick-no}
 use Rattle.algebra.proofs.Sum.{sum-ext}
@@ -58,7 +58,7 @@ module _ (K : Field) (C : Code K) (f : ℕ) (s : ℕ → ℕ) where
 
   -- Row c of the base array, for this code, lost node and choice.
   abbrev pub row : Array K → ℕ → F
-  row x j = rowAt K A k point θ f s x j
+  row x j = rowSymbol K A k point θ f s x j
 
   -- The other rows at the lost node.
   abbrev other : Array K → ℕ → F
@@ -80,7 +80,7 @@ module _ (K : Field) (C : Code K) (f : ℕ) (s : ℕ → ℕ) where
   module _ (x y : Array K) (e : Agree K A k f s x y) where
     -- Row c is computed from the planned places alone.
     row-same : (j : ℕ) → row x j ≡ row y j
-    unfolding rowAt
+    unfolding rowSymbol
     row-same j = sum-ext K k (λ q l. ap (λ z. z ⊗ weight K k (λ q. point (s q)) q (point j)) (at q l))
       where
         at : (q : ℕ) → q < k → base K A θ x c (s q) ≡ base K A θ y c (s q)
@@ -114,7 +114,7 @@ module _ (K : Field) (C : Code K) (f : ℕ) (s : ℕ → ℕ) where
     -- A word with the base symbols of x at the chosen nodes is row c of x.
     row-of : (x : Array K) {a : ℕ → F} → Codeword K n point k a → ((q : ℕ) → q < k → a (s q) ≡ base K A θ x c (s q))
         → (j : ℕ) → j < n → a j ≡ row x j
-    unfolding rowAt
+    unfolding rowSymbol
     row-of x W h j l =
         recover K n point distinct k s choice W j l
         ∙ sum-ext K k (λ q b. ap (λ z. z ⊗ weight K k (λ q. point (s q)) q (point j)) (h q b))

@@ -5,19 +5,19 @@ use native.Mathlib.Omega.{arith}
 use native.Mathlib.Decide.{decLt}
 use Rattle.algebra.specs.Field.{Field}
 use Rattle.algebra.specs.Sum.{sum}
-use Rattle.algebra.specs.Polynomial.{eval, Distinct}
+use Rattle.algebra.specs.Polynomial.{eval, DistinctPoints}
 use Rattle.algebra.specs.Weight.{weight}
 use Rattle.algebra.specs.RowCode.{Choice, Codeword}
 use Rattle.algebra.proofs.Sum.{sum-ext}
 use Rattle.algebra.proofs.Polynomial.{Through, agree, interpolate}
 use Rattle.algebra.proofs.Weight.{lagrange}
 
-module _ (K : Field) (n : ℕ) (point : ℕ → K .carrier) (points : Distinct K n point) where
+module _ (K : Field) (n : ℕ) (point : ℕ → K .carrier) (points : DistinctPoints K n point) where
   infixl 70 _⊗_
   open Field K using (carrier as F, mul as _⊗_)
 
   -- Different nodes have different points.
-  pub chosen : {m : ℕ} {s : ℕ → ℕ} → Choice m n s → Distinct K m (λ i. point (s i))
+  pub chosen : {m : ℕ} {s : ℕ → ℕ} → Choice m n s → DistinctPoints K m (λ i. point (s i))
   chosen {m} {s} C i j l h e = go (decLt (s i) (s j))
     where
       go : Dec (s i < s j) → ⊥

@@ -8,7 +8,7 @@ use Rattle.algebra.specs.Field.{Field}
 use Rattle.algebra.specs.Sum.{sum}
 use Rattle.algebra.specs.Weight.{weight}
 use Rattle.algebra.specs.Coupling.{Array, partnerNode, pair, base}
-use Rattle.algebra.specs.Rebuild.{rowAt, otherAt, rebuiltAt}
+use Rattle.algebra.specs.Rebuild.{rowSymbol, otherAt, rebuiltAt}
 use Rattle.algebra.specs.Rows.{folded, scale, own, coefficient}
 use Rattle.algebra.proofs.Field.{ring, zero-add, one-mul, zero-mul, add-zero}
 use Rattle.algebra.proofs.Pick.{pick-yes, pick-no}
@@ -37,8 +37,8 @@ module _ (K : Field) (A k : ℕ) (point : ℕ → K .carrier) (θ : ℕ → ℕ 
 
   -- A multiple of a symbol of row c, as a sum of folded symbols.
   row-sum : (x : Array K) (a : F) (j : ℕ)
-      → a ⊗ rowAt K A k point θ f s x j ≡ sum K k (λ q. folded K A θ f s x q ⊗ (a ⊗ share j q))
-  unfolding rowAt base folded
+      → a ⊗ rowSymbol K A k point θ f s x j ≡ sum K k (λ q. folded K A θ f s x q ⊗ (a ⊗ share j q))
+  unfolding rowSymbol base folded
   row-sum x a j =
       sym (sum-scale K k a _)
       ∙ sum-ext K k
@@ -51,7 +51,7 @@ module _ (K : Field) (A k : ℕ) (point : ℕ → K .carrier) (θ : ℕ → ℕ 
   module _ (x : Array K) (i : ℕ) where
     -- Row c of the array at node i of the lost group.
     abbrev row : F
-    row = rowAt K A k point θ f s x (member i)
+    row = rowSymbol K A k point θ f s x (member i)
 
     -- The sum by which the row is made, with the row's scale given.
     abbrev terms : F → F
@@ -68,7 +68,7 @@ module _ (K : Field) (A k : ℕ) (point : ℕ → K .carrier) (θ : ℕ → ℕ 
     unfolding rebuiltAt own scale coefficient
     lost-sum e =
         pick-yes (ℕ-discrete i c) _ _ e
-        ∙ ap (λ j. rowAt K A k point θ f s x j) (sym (ap (λ l. partnerNode A l f) e ∙ div-add-mod' f A))
+        ∙ ap (λ j. rowSymbol K A k point θ f s x j) (sym (ap (λ l. partnerNode A l f) e ∙ div-add-mod' f A))
         ∙ sym (one-mul K row) ∙ row-sum x 𝟙 (member i) ∙ sym (zero-add K (terms 𝟙))
         ∙ sym (ap₂ (λ o a. o ⊕ terms a) (pick-yes (ℕ-discrete i c) _ _ e) (pick-yes (ℕ-discrete i c) _ _ e))
 

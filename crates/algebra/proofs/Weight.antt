@@ -8,7 +8,7 @@ use native.Mathlib.Decide.{ℕ-discrete}
 use Rattle.algebra.specs.Field.{Field}
 use Rattle.algebra.specs.Pick.{pick}
 use Rattle.algebra.specs.Sum.{sum}
-use Rattle.algebra.specs.Polynomial.{Polynomial, Distinct, Avoids}
+use Rattle.algebra.specs.Polynomial.{Polynomial, DistinctPoints, Avoids}
 use Rattle.algebra.specs.Weight.{weight, product, productBut}
 use Rattle.algebra.proofs.Field.{
   ring,
@@ -139,7 +139,7 @@ module _ (K : Field) where
       go (no n) h = ap (λ p. p ⊗ f m) (h (omega arith)) ∙ mul-assoc K (f j) (productBut K m j f) (f m)
 
   -- A polynomial of degree below k is the sum of its values at k distinct points, each times its weight.
-  pub lagrange : (k : ℕ) (x : ℕ → F) → Distinct K k x → {f : F → F} → Polynomial K k f
+  pub lagrange : (k : ℕ) (x : ℕ → F) → DistinctPoints K k x → {f : F → F} → Polynomial K k f
       → (z : F) → f z ≡ sum K k (λ j. f (x j) ⊗ weight K k x j z)
   lagrange k x d {f} P = agree K k x d P (poly-sum K k term term-poly) at
     where

@@ -12,7 +12,7 @@ use native.Mathlib.Decide.{ℕ-discrete}
 use Rattle.algebra.specs.Field.{Field}
 use Rattle.algebra.specs.Pick.{pick}
 use Rattle.algebra.specs.Sum.{sum}
-use Rattle.algebra.specs.Polynomial.{Distinct}
+use Rattle.algebra.specs.Polynomial.{DistinctPoints}
 use Rattle.algebra.specs.Weight.{weight}
 use Rattle.algebra.specs.RowCode.{Codeword}
 use Rattle.algebra.specs.Coupling.{Array, partnerNode, stored, pair, factor}
@@ -42,7 +42,7 @@ module _ (K : Field) where
     pub θ : ℕ → ℕ → F
     pub some-row : 0 < A
     pub partners : (i j : ℕ) → i < A → j < n → partnerNode A i j < n
-    pub distinct : Distinct K n point
+    pub distinct : DistinctPoints K n point
     pub diagonal : (i : ℕ) → θ i i ≡ 𝟘
     pub coupled : (i l : ℕ) → i < A → l < A → i ≢ l → θ i l ≢ 𝟘
     pub pairs : (i l : ℕ) → i < A → l < A → pair K θ i l ≢ 𝟘

@@ -2,7 +2,7 @@
 --
 -- eval K p z       : the value of the polynomial p at z
 -- Polynomial K k f : the function f is a polynomial of degree below k
--- Distinct K k x   : the first k of the points x are all different
+-- DistinctPoints K k x   : the first k of the points x are all different
 -- Avoids K m x j z : z is none of the first m of the points x, but may be the point x j
 use mathlib.Core.Path.{_≡_}
 use mathlib.Core.Logic.{_≢_}
@@ -28,8 +28,8 @@ module _ (K : Field) where
     pub value : (z : F) → f z ≡ eval coefficients z
 
   -- No two of the first k points are equal.
-  abbrev pub Distinct : ℕ → (ℕ → F) → Type 0
-  Distinct k x = (i j : ℕ) → i < j → j < k → x i ≢ x j
+  abbrev pub DistinctPoints : ℕ → (ℕ → F) → Type 0
+  DistinctPoints k x = (i j : ℕ) → i < j → j < k → x i ≢ x j
 
   -- z differs from each of the first m points other than the point j.
   abbrev pub Avoids : ℕ → (ℕ → F) → ℕ → F → Type 0

@@ -2,7 +2,7 @@
 --
 -- f                                  : the lost node; c = f % A is its local column
 -- s                                  : the chosen nodes, s 0 .. s (k-1)
--- rowAt K A k point θ f s x j        : the base symbol of row c at node j, from what x stores
+-- rowSymbol K A k point θ f s x j    : the base symbol of row c at node j, from what x stores
 -- otherAt K A k point θ f s x i      : the base symbol of row i at the lost node, for i other than c
 -- rebuiltAt K A k point θ f s x i    : the stored symbol of row i at the lost node
 -- Planned A k f s i j                : row i, node j is one of the places that the three above read
@@ -25,17 +25,17 @@ module _ (K : Field) (A k : ℕ) (point : ℕ → K .carrier) (θ : ℕ → ℕ 
   open Field K using (carrier as F, add as _⊕_, mul as _⊗_, inv)
 
   -- Row c is a word of the row code: its symbol at node j is the weighted sum of those at the chosen nodes.
-  unfoldable pub rowAt : Array K → ℕ → F
-  rowAt x j = sum K k (λ q. base K A θ x (f % A) (s q) ⊗ weight K k (λ q. point (s q)) q (point j))
+  unfoldable pub rowSymbol : Array K → ℕ → F
+  rowSymbol x j = sum K k (λ q. base K A θ x (f % A) (s q) ⊗ weight K k (λ q. point (s q)) q (point j))
 
   -- Row c of another node of the lost group holds this symbol as its partner: taken out, and divided by its factor.
   unfoldable pub otherAt : Array K → ℕ → F
-  otherAt x i = inv (θ (f % A) i) ⊗ (x (f % A) (partnerNode A i f) ⊕ rowAt x (partnerNode A i f))
+  otherAt x i = inv (θ (f % A) i) ⊗ (x (f % A) (partnerNode A i f) ⊕ rowSymbol x (partnerNode A i f))
 
   -- The lost column, coupled again.
   unfoldable pub rebuiltAt : Array K → ℕ → F
   rebuiltAt x i =
-      pick (ℕ-discrete i (f % A)) (rowAt x f) (otherAt x i ⊕ θ i (f % A) ⊗ rowAt x (partnerNode A i f))
+      pick (ℕ-discrete i (f % A)) (rowSymbol x f) (otherAt x i ⊕ θ i (f % A) ⊗ rowSymbol x (partnerNode A i f))
 
 module _ (A k f : ℕ) (s : ℕ → ℕ) where
   -- Row c of each other node of the lost group, row c of each chosen node, and the partner of the latter where

@@ -3,7 +3,7 @@
 -- dot K w r v         : r 0 ⊗ v 0 ⊕ .. ⊕ r (w-1) ⊗ v (w-1)
 -- unit K p            : the vector that is 𝟙 at p and 𝟘 elsewhere
 -- Matrix K            : an entry for each row and column, row first
--- times K w M v       : the matrix M of w columns applied to the vector v
+-- image K w M v       : the matrix M of w columns applied to the vector v
 -- Solves K m w M b v  : M v = b in the first m rows
 -- Kernel K m w M      : a vector other than zero that M takes to zero
 -- Inverse K m w M T   : T is a left inverse of M, and the inverse where M is square
@@ -37,12 +37,12 @@ module _ (K : Field) where
   Matrix = ℕ → ℕ → F
 
   -- A matrix of w columns applied to a vector.
-  abbrev pub times : ℕ → Matrix → (ℕ → F) → ℕ → F
-  times w M v i = dot w (M i) v
+  abbrev pub image : ℕ → Matrix → (ℕ → F) → ℕ → F
+  image w M v i = dot w (M i) v
 
   -- v solves M v = b.
   abbrev pub Solves : ℕ → ℕ → Matrix → (ℕ → F) → (ℕ → F) → Type 0
-  Solves m w M b v = (i : ℕ) → i < m → times w M v i ≡ b i
+  Solves m w M b v = (i : ℕ) → i < m → image w M v i ≡ b i
 
   -- `vector` is not zero, and M takes it to zero.
   pub record Kernel (m w : ℕ) (M : Matrix) : Type 0 where
@@ -54,8 +54,8 @@ module _ (K : Field) where
 
   -- M v = b only for v = T b, and for it where M is square.
   pub record Inverse (m w : ℕ) (M T : Matrix) : Type 0 where
-    pub unique : (b v : ℕ → F) → Solves m w M b v → (j : ℕ) → j < w → v j ≡ times m T b j
-    pub solves : m ≡ w → (b : ℕ → F) → Solves m w M b (times m T b)
+    pub unique : (b v : ℕ → F) → Solves m w M b v → (j : ℕ) → j < w → v j ≡ image m T b j
+    pub solves : m ≡ w → (b : ℕ → F) → Solves m w M b (image m T b)
 
   -- To each row i is added c i times row p.
   abbrev pub Step : ℕ → ℕ → ℕ → (ℕ → F) → Matrix → Matrix → Type 0
@@ -63,8 +63,8 @@ module _ (K : Field) where
 
   -- What row steps keep: M v = b exactly where N v = T b.
   pub record Reached (m w : ℕ) (M N T : Matrix) : Type 0 where
-    pub forth : (b v : ℕ → F) → Solves m w M b v → Solves m w N (times m T b) v
-    pub back : (b v : ℕ → F) → Solves m w N (times m T b) v → Solves m w M b v
+    pub forth : (b v : ℕ → F) → Solves m w M b v → Solves m w N (image m T b) v
+    pub back : (b v : ℕ → F) → Solves m w N (image m T b) v → Solves m w M b v
 
   -- The first r columns of the m rows are those of the unit matrix.
   pub record Reduced (r m : ℕ) (M : Matrix) : Type 0 where

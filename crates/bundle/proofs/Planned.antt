@@ -19,7 +19,7 @@ use Rattle.document.proofs.Price.{few-places}
 use Rattle.document.proofs.PlanBytes.{bytes-length}
 use Rattle.document.proofs.Chosen.{plan-within}
 use Rattle.document.proofs.Bundle.{lost-length}
-use Rattle.message.specs.Bytes.{placesFrom, Bounded}
+use Rattle.message.specs.PlaceBytes.{placesFrom, Bounded}
 use Rattle.message.proofs.Places.{places-length, places-back}
 
 module _ (p : Profile) (acc : Accepted p) (f : Node) (h : f .0 < p .n) where

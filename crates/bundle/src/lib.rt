@@ -99,7 +99,7 @@ pub fn write_bundle(
     let checked = Profile::new(p);
     match checked {
         Checked::Rejected(refusal) => Answer::Refused(refusal),
-        Checked::Passed(q) => write_with(q, Node(lost), r, array, bundle),
+        Checked::Passed(profile) => write_with(profile, Node(lost), r, array, bundle),
     }
 }
 

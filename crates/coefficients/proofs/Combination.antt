@@ -10,8 +10,8 @@ use Rattle.gf256.proofs.Ring.{mul-comm}
 use Rattle.algebra.specs.Sum.{sum}
 use Rattle.algebra.proofs.Sum.{sum-ext, sum-front}
 use Rattle.strips.specs.Strips.{sumOf}
-use Rattle.document.specs.Bytes.{bytes, Byte, byte, number}
-use Rattle.document.proofs.Bytes.{number-zero, number-add, number-mul, byte-left, byte-right}
+use Rattle.document.specs.ByteField.{bytes, Byte, byte, number}
+use Rattle.document.proofs.ByteField.{number-zero, number-add, number-mul, byte-left, byte-right}
 
 -- a weighted byte
 abbrev term : List ℕ → List ℕ → ℕ → ℕ → ℕ → Byte

@@ -9,7 +9,7 @@ use Rattle.lists.specs.Listed.{listed}
 use Rattle.lists.proofs.Listed.{listed-length, listed-at, listed-take}
 use Rattle.algebra.specs.Weight.{weight}
 use Rattle.algebra.proofs.Weight.{weight-ext}
-use Rattle.document.specs.Bytes.{bytes, byte, number}
+use Rattle.document.specs.ByteField.{bytes, byte, number}
 use Rattle.coefficients.specs.Weights.{Different, Outside, points, weightsOf}
 use Rattle.coefficients.specs.Data.{dataNodes, dataWeights}
 use Rattle.coefficients.proofs.Lagrange.{weights-length, weights-at}

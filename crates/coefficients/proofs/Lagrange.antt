@@ -8,12 +8,12 @@ use lib.ListN.{length, getD}
 use Rattle.lists.specs.Listed.{listed}
 use Rattle.lists.proofs.Listed.{listed-length, listed-at, listed-ext}
 use Rattle.gf256.specs.Field.{_⊕_, _⊗_, inverse, productOf, quotientsOf, NoZero}
-use Rattle.algebra.specs.Polynomial.{Distinct}
+use Rattle.algebra.specs.Polynomial.{DistinctPoints}
 use Rattle.algebra.specs.Weight.{weight, product, productBut}
 use Rattle.algebra.proofs.Field.{add-ne-zero}
 use Rattle.algebra.proofs.Polynomial.{apart}
-use Rattle.document.specs.Bytes.{bytes, Byte, byte, number}
-use Rattle.document.proofs.Bytes.{number-zero, number-byte, byte-number, number-add, number-mul, number-inv}
+use Rattle.document.specs.ByteField.{bytes, Byte, byte, number}
+use Rattle.document.proofs.ByteField.{number-zero, number-byte, byte-number, number-add, number-mul, number-inv}
 use Rattle.coefficients.specs.Weights.{Different, Outside, points, weightsOf}
 use Rattle.coefficients.specs.Weights.{differencesOf, denominatorOf, denominatorsOf, Divisors, weightsFrom}
 use Rattle.algebra.proofs.Weight.{product-ne-zero, weight-quotient}
@@ -64,7 +64,7 @@ number-quotient a b c = simp (number-mul, number-inv)
 
 module _ (nodes : List ℕ) (small : (i : ℕ) → getD nodes i 0 < 256) (D : Different nodes) where
   -- Different nodes are different points.
-  points-apart : Distinct bytes (length nodes) (points nodes)
+  points-apart : DistinctPoints bytes (length nodes) (points nodes)
   points-apart i j l b e =
       D .apart i j l b
       (sym (number-byte (getD nodes i 0) (small i)) ∙ ap number e ∙ number-byte (getD nodes j 0) (small j))

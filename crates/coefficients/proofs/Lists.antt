@@ -12,8 +12,8 @@ use Rattle.algebra.specs.Pick.{pick}
 use Rattle.algebra.proofs.Pick.{pick-yes, pick-no}
 use Rattle.algebra.specs.Weight.{product, productBut}
 use Rattle.algebra.proofs.Weight.{product-first, product-replaced}
-use Rattle.document.specs.Bytes.{bytes, Byte, number}
-use Rattle.document.proofs.Bytes.{number-one, number-mul}
+use Rattle.document.specs.ByteField.{bytes, Byte, number}
+use Rattle.document.proofs.ByteField.{number-one, number-mul}
 
 -- ---- products and quotients of listed entries
 -- The product of a list is the product in the field.

@@ -7,7 +7,7 @@ use mathlib.Core.List.{List}
 use Prim.Native.Nat.{ℕ}
 use Rattle.lists.specs.Listed.{listed}
 use Rattle.algebra.specs.Weight.{weight}
-use Rattle.document.specs.Bytes.{bytes, byte, number}
+use Rattle.document.specs.ByteField.{bytes, byte, number}
 use Rattle.coefficients.specs.Weights.{denominatorsOf}
 
 unfoldable pub dataNodes : ℕ → List ℕ

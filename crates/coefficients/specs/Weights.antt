@@ -18,7 +18,7 @@ use Rattle.lists.specs.Listed.{listed}
 use Rattle.gf256.specs.Field.{productOf, quotientsOf, NoZero}
 use Rattle.algebra.specs.Weight.{weight, productBut}
 use Rattle.document.specs.Profile.{maxNodes}
-use Rattle.document.specs.Bytes.{bytes, Byte, byte, number}
+use Rattle.document.specs.ByteField.{bytes, Byte, byte, number}
 
 -- At most as many nodes as a profile can have, no two equal.
 pub record Different (nodes : List ℕ) : Type 0 where

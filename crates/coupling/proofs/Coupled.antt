@@ -11,9 +11,9 @@ use Rattle.gf256.specs.Field.{_⊕_, _⊗_}
 use Rattle.document.specs.declared.Profile.{Profile}
 use Rattle.document.specs.Profile.{Accepted}
 use Rattle.document.specs.Places.{place}
-use Rattle.document.specs.Bytes.{byte, number}
+use Rattle.document.specs.ByteField.{byte, number}
 use Rattle.document.specs.Encoding.{start, byteAt, constantOf, coupledAt, coupled}
-use Rattle.document.proofs.Bytes.{number-byte, number-add, number-mul}
+use Rattle.document.proofs.ByteField.{number-byte, number-add, number-mul}
 use Rattle.document.proofs.Arrays.{laid-only, coupled-diagonal, coupled-upper, coupled-lower}
 use Rattle.coupling.specs.Pairs.{partnerNumber, pairChanged, coupledStrips, coupledByte, pairCoupled}
 use Rattle.coupling.proofs.Pairs.{old, new, Mixed, all-changed}

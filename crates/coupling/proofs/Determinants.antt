@@ -8,9 +8,9 @@ use Rattle.algebra.specs.Coupling.{pair}
 use Rattle.algebra.proofs.Coupling.{pair-diagonal, pair-upper, pair-lower, pair-ne}
 use Rattle.document.specs.declared.Profile.{Profile}
 use Rattle.document.specs.Profile.{Accepted}
-use Rattle.document.specs.Bytes.{bytes, byte, number}
+use Rattle.document.specs.ByteField.{bytes, byte, number}
 use Rattle.document.specs.Encoding.{constantOf, factorAt}
-use Rattle.document.proofs.Bytes.{number-one, number-add, byte-number, byte-zero}
+use Rattle.document.proofs.ByteField.{number-one, number-add, byte-number, byte-zero}
 use Rattle.document.proofs.Columns.{constant-ne-one}
 
 module _ (p : Profile) where

@@ -20,7 +20,7 @@ use lib.ListN.{length, getD}
 use Rattle.lists.specs.Listed.{listed, patched}
 use Rattle.gf256.specs.Field.{_⊕_, _⊗_}
 use Rattle.document.specs.declared.Profile.{Profile}
-use Rattle.document.specs.Bytes.{number}
+use Rattle.document.specs.ByteField.{number}
 use Rattle.document.specs.Encoding.{constantOf}
 
 -- Strip z is that of node z div A, row z mod A.

@@ -4,7 +4,7 @@ ghost use Prim.Native.Nat.{_+_, _*_, _<_, _≤_};
 ghost use lib.ListN.{length};
 ghost use Rattle.algebra.specs.Coupling.{pair};
 ghost use Rattle.strips.specs.Strips.{addedScaled};
-ghost use Rattle.document.specs.Bytes.{bytes, number};
+ghost use Rattle.document.specs.ByteField.{bytes, number};
 ghost use Rattle.document.specs.Profile.{Accepted};
 ghost use Rattle.document.specs.Encoding.{factorAt, coupled};
 ghost use Rattle.coupling.specs.Pairs.{coupledStrips, pairCoupled, multipleOf, uncoupledStrip};

@@ -67,12 +67,12 @@ module _ (p : Numbers) (f : ℕ) (r : Recording) (x b : List ℕ) where
   abbrev bundle : List ℕ
   bundle = bundleOf wanted node r x
 
-  write-call : CallFor p (λ q. writeTests q node x b) (λ q. writeSentences q node x b) ((4, 0) ∷ (5, 0) ∷ []) b
+  write-call : CallFor p (λ p. writeTests p node x b) (λ p. writeSentences p node x b) ((4, 0) ∷ (5, 0) ∷ []) b
       (writeOf p f r x b) (Done (length bundle), bundle)
   unfolding writeOf writeWith writeSentences numberOf indexOf
   write-call =
-      call-for p b (λ q. writeTests q node x b) (λ q. writeSentences q node x b) (λ q. length (bundleOf q node r x))
-      (λ q. bundleOf q node r x) (λ acc. write-decided _ node x b) refl
+      call-for p b (λ p. writeTests p node x b) (λ p. writeSentences p node x b) (λ p. length (bundleOf p node r x))
+      (λ p. bundleOf p node r x) (λ acc. write-decided _ node x b) refl
 
   pub demand-1-write : Demand1Write p f r x b
   demand-1-write = write-call .exactly

@@ -19,7 +19,7 @@ use Rattle.document.specs.declared.Answer.the-variants.{Done}
 use Rattle.document.specs.Refusals.{numberOf, indexOf, answerValue, Decides}
 use Rattle.document.specs.Profile.{Accepted, profileOf}
 use Rattle.document.specs.Places.{place, partnerOf, Within}
-use Rattle.document.specs.Bytes.{bytes, Byte, byte}
+use Rattle.document.specs.ByteField.{bytes, Byte, byte}
 use Rattle.document.specs.Encoding.{
   byteAt,
   baseAt,
@@ -31,7 +31,7 @@ use Rattle.document.specs.Encoding.{
   encodeWith,
   encodeOf,
 }
-use Rattle.document.proofs.Bytes.{points-distinct}
+use Rattle.document.proofs.ByteField.{points-distinct}
 use Rattle.document.proofs.Bounds.{partner-within}
 use Rattle.document.proofs.Rows.{row-word, row-data}
 use Rattle.document.proofs.Arrays.{
@@ -64,11 +64,11 @@ unfolding encodeTests encodeSentences
 encode-decided p d x = line refl (decides-not _ (decides-sizes p d x)) (λ l. none)
 
 module _ (p : Numbers) (d x : List ℕ) where
-  encode-call : CallFor p (λ q. encodeTests q d x) (λ q. encodeSentences q d x) ((5, 0) ∷ []) x (encodeOf p d x)
+  encode-call : CallFor p (λ p. encodeTests p d x) (λ p. encodeSentences p d x) ((5, 0) ∷ []) x (encodeOf p d x)
       (Done 0, encoded (profileOf p) d)
   unfolding encodeOf encodeWith encodeSentences numberOf indexOf
   encode-call =
-      call-for p x (λ q. encodeTests q d x) (λ q. encodeSentences q d x) (λ q. 0) (λ q. encoded q d)
+      call-for p x (λ p. encodeTests p d x) (λ p. encodeSentences p d x) (λ p. 0) (λ p. encoded p d)
       (λ acc. encode-decided _ d x) refl
 
   pub demand-1-encode : Demand1Encode p d x

@@ -34,13 +34,13 @@ module _ (p : Numbers) (f : ℕ) (x : List ℕ) where
   lost = record { 0 = f }
 
   abbrev planAfter : Profile → List ℕ
-  planAfter q = planBytes (planned q lost) ++ drop (2 * length (planned q lost)) x
+  planAfter p = planBytes (planned p lost) ++ drop (2 * length (planned p lost)) x
 
-  plan-call : CallFor p (λ q. planTests q lost x) (λ q. planSentences q lost x) ((4, 0) ∷ (5, 0) ∷ []) x (planOf p f x)
+  plan-call : CallFor p (λ p. planTests p lost x) (λ p. planSentences p lost x) ((4, 0) ∷ (5, 0) ∷ []) x (planOf p f x)
       (Done (length (planned (profileOf p) lost)), planAfter (profileOf p))
   unfolding planOf planWith planSentences numberOf indexOf
   plan-call =
-      call-for p x (λ q. planTests q lost x) (λ q. planSentences q lost x) (λ q. length (planned q lost)) planAfter
+      call-for p x (λ p. planTests p lost x) (λ p. planSentences p lost x) (λ p. length (planned p lost)) planAfter
       (λ acc. plan-decided _ lost x) refl
 
   pub demand-1-plan : Demand1Plan p f x
@@ -64,7 +64,7 @@ demand-3-walk p f = (walk-complete p f, refl)
 pub demand-3-plan : Demand3Plan
 unfolding planSentences planned answerValue
 demand-3-plan p f x e = record {
-  written = ap (λ o. o .1) (granted .is-done);
+  holds = ap (λ o. o .1) (granted .is-done);
   number = ap (λ o. answerValue (o .0)) (granted .is-done);
   places = demand-3-places (profileOf p) (granted .accepted) node below (walkOf (profileOf p) node)
       (walk-complete (profileOf p) node);

@@ -114,7 +114,7 @@ module _ {X : Type 0} (p : Numbers) (before : X) (tests : Profile → List Test)
   abbrev callOf : Answer × X
   callOf =
       onAccepted p (λ r. (Refused r, before))
-      (λ q. tried (tests q) (λ r. (Refused r, before)) (Done (v q), after q))
+      (λ p. tried (tests p) (λ r. (Refused r, before)) (Done (v p), after p))
 
   all-numbered : Numbered (profileSentences p ++ table (profileOf p)) (profileLines ++ lines)
   unfolding profileSentences numberOf indexOf
@@ -126,7 +126,7 @@ module _ {X : Type 0} (p : Numbers) (before : X) (tests : Profile → List Test)
   in-a-row : CallOf (profileTests p ++ tests (profileOf p)) (profileSentences p ++ table (profileOf p))
       (profileLines ++ lines) before callOf (Done (v (profileOf p)), after (profileOf p))
   in-a-row =
-      rw (one-list {X = Answer × X} p (λ r. (Refused r, before)) tests (λ q. (Done (v q), after q)))
+      rw (one-list {X = Answer × X} p (λ r. (Refused r, before)) tests (λ p. (Done (v p), after p)))
       (call-of before (v (profileOf p)) (after (profileOf p)) (profile-decided p decides) all-numbered)
 
   pub call-for : CallFor p tests table lines before callOf (Done (v (profileOf p)), after (profileOf p))
@@ -144,8 +144,8 @@ module _ {X : Type 0} (p : Numbers) (before : X) (tests : Profile → List Test)
 pub call-answer : {X : Type 0} (p : Numbers) (before : X) (tests : Profile → List Test) (v : Profile → ℕ)
     (after : Profile → X)
     → onAccepted {X = Answer × X} p (λ r. (Refused r, before))
-    (λ q. tried (tests q) (λ r. (Refused r, before)) (Done (v q), after q)) .0
-    ≡ onAccepted p Refused (λ q. tried (tests q) Refused (Done (v q)))
+    (λ p. tried (tests p) (λ r. (Refused r, before)) (Done (v p), after p)) .0
+    ≡ onAccepted p Refused (λ p. tried (tests p) Refused (Done (v p)))
 call-answer {X} p before tests v after =
     on-accepted-map (λ (o : Answer × X). o .0) p _ _
     ∙ on-accepted-same p Refused _ _ (λ acc. tried-map (λ (o : Answer × X). o .0) (tests (profileOf p)) _ _)

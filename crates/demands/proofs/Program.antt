@@ -10,13 +10,13 @@ use Rattle.document.specs.declared.Refusal.{Refusal}
 use Rattle.document.specs.declared.Answer.{Answer}
 use Rattle.document.specs.declared.Answer.the-variants.{Done, Refused}
 use Rattle.document.specs.Refusals.{numberOf, answerNumber}
-use Rattle.document.specs.Program.{lineOf, outputOf, programOf}
+use Rattle.document.specs.Program.{refusalLine, outputOf, programOf}
 use Rattle.document.proofs.Refusals.{never-zero}
 use Rattle.demands.specs.Profile.{profileSentences}
 use Rattle.demands.specs.Message.{stripSentences, messageSentences}
 use Rattle.demands.specs.Bundle.{bundleSentences}
 use Rattle.demands.specs.Rebuild.{rebuildSentences}
-use Rattle.demands.specs.Program.{wanted, lent, table, Demand1Program}
+use Rattle.demands.specs.Program.{numbers, lent, table, Demand1Program}
 use Rattle.demands.proofs.Tables.{first-holds, Only, held, line-by-line}
 use Rattle.demands.proofs.Rebuild.{demand-1-rebuild}
 
@@ -26,10 +26,10 @@ unfolding outputOf answerNumber
 column-out (Done w, x) e = refl
 column-out (Refused q, x) e = absurd (never-zero q e)
 
-line-out : (o : Answer × List ℕ) (q : Refusal) → o .0 ≡ Refused q → outputOf o ≡ lineOf q
+line-out : (o : Answer × List ℕ) (q : Refusal) → o .0 ≡ Refused q → outputOf o ≡ refusalLine q
 unfolding outputOf
 line-out (Done w, x) q e = absurd (let z : _≡_ {A = ℕ} 0 1 = cc in omega arith)
-line-out (Refused s, x) q e = let same : s ≡ q = cc in ap lineOf same
+line-out (Refused s, x) q e = let same : s ≡ q = cc in ap refusalLine same
 
 -- ---- the answer is not 5
 -- the refusal r has another number than m
@@ -40,7 +40,7 @@ Other m r = elim (eqb (numberOf r) m) [ true ↦ ⊥ | false ↦ Unit ]
 others-alone : (input : List ℕ) → Only (Other 5) (table input)
 unfolding rebuildSentences profileSentences bundleSentences messageSentences stripSentences numberOf
 others-alone input =
-    let size : length (lent input) ≡ wanted input .a * wanted input .s = length-replicate _ 0 in
+    let size : length (lent input) ≡ numbers input .a * numbers input .s = length-replicate _ 0 in
     search (line-by-line, tt) depth 20
 
 pub demand-1-program : Demand1Program

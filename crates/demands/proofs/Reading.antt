@@ -45,11 +45,11 @@ module _ (p : Profile) (nodes x y : List ℕ) where
       (λ sizes. line refl (decides-ambiguous p acc nodes (decided _ decides-rising list)) (λ two. none)))
 
 module _ (p : Numbers) (nodes x y : List ℕ) where
-  read-call : CallFor p (λ q. readTests q nodes x y) (λ q. readSentences q nodes x y) ((4, 0) ∷ (5, 0) ∷ (10, 0) ∷ []) y
+  read-call : CallFor p (λ p. readTests p nodes x y) (λ p. readSentences p nodes x y) ((4, 0) ∷ (5, 0) ∷ (10, 0) ∷ []) y
       (readOf p nodes x y) (Done 0, dataFrom (profileOf p) nodes x)
   unfolding readOf readWith readSentences numberOf indexOf
   read-call =
-      call-for p y (λ q. readTests q nodes x y) (λ q. readSentences q nodes x y) (λ q. 0) (λ q. dataFrom q nodes x)
+      call-for p y (λ p. readTests p nodes x y) (λ p. readSentences p nodes x y) (λ p. 0) (λ p. dataFrom p nodes x)
       (read-decided _ nodes x y) refl
 
   pub demand-1-read : Demand1Read p nodes x y
@@ -125,8 +125,8 @@ same-answer : (p : Numbers) (nodes x y u v : List ℕ) → length u ≡ length x
     → readOf p nodes u v .0 ≡ readOf p nodes x y .0
 unfolding readOf readWith readTests
 same-answer p nodes x y u v e f =
-    call-answer p v (λ q. readTests q nodes u v) _ _ ∙ (rw (e, f))
-    ∙ sym (call-answer p y (λ q. readTests q nodes x y) _ _)
+    call-answer p v (λ p. readTests p nodes u v) _ _ ∙ (rw (e, f))
+    ∙ sym (call-answer p y (λ p. readTests p nodes x y) _ _)
 
 -- Demand 2 for reading back.
 pub demand-2-reading : Demand2Reading

@@ -4,6 +4,7 @@ use mathlib.Core.List.{List, _∷_, _++_}
 use Prim.Native.Nat.{ℕ, _+_, _*_, _≤_, _<_}
 use native.Mathlib.Omega.{arith}
 use lib.ListN.{length, getD}
+use Rattle.lists.specs.Each.{Bytes}
 use Rattle.lists.specs.Listed.{listed}
 use Rattle.lists.proofs.Slice.{slice-at, slice-length}
 use Rattle.fields.specs.Fields.{fourBytes}
@@ -24,7 +25,7 @@ use Rattle.document.proofs.Decides.{decides-lt, decides-eq, decides-not, decide
 use Rattle.document.proofs.Bounds.{room}
 use Rattle.document.proofs.Walks.{Sound, walk-sound}
 use Rattle.demands.specs.Tables.{Decided, line}
-use Rattle.demands.specs.Strips.{Bytes, EncodedArray, HasStrips, columnIn}
+use Rattle.demands.specs.Strips.{EncodedArray, HasStrips, columnIn}
 use Rattle.demands.specs.Bundle.{bundleSentences}
 use Rattle.demands.specs.Rebuild.{
   rebuildSentences,
@@ -77,14 +78,14 @@ module _ (p : Numbers) (f : ℕ) (r : Recording) (b y : List ℕ) where
   P = length (planned profile lost)
 
   abbrev rebuilt : Profile → List ℕ
-  rebuilt q = rebuiltOf q lost b (firstStrip q) (stripFieldLength (q .s))
+  rebuilt p = rebuiltOf p lost b (firstStrip p) (stripFieldLength (p .s))
 
-  rebuild-call : CallFor p (λ q. rebuildTests q lost r b y) (λ q. rebuildSentences q lost r b y)
+  rebuild-call : CallFor p (λ p. rebuildTests p lost r b y) (λ p. rebuildSentences p lost r b y)
       ((4, 0) ∷ (5, 0) ∷ (6, 0) ∷ (7, 0) ∷ (listed P (λ i. (8, i)) ++ listed P (λ i. (9, i)))) y (rebuildOf p f r b y)
       (Done 0, rebuilt profile)
   unfolding rebuildOf rebuildWith rebuildSentences bundleSentences lostContent recordingBytes fourBytes numberOf indexOf
   rebuild-call =
-      call-for p y (λ q. rebuildTests q lost r b y) (λ q. rebuildSentences q lost r b y) (λ q. 0) rebuilt
+      call-for p y (λ p. rebuildTests p lost r b y) (λ p. rebuildSentences p lost r b y) (λ p. 0) rebuilt
       (λ acc. rebuild-decided _ lost r b y)
       (ap (λ (l : List (ℕ × ℕ)). (4, 0) ∷ (5, 0) ∷ l)
       (message-numbered profile (lostContent lost r) r (planned profile lost) b))
@@ -173,8 +174,8 @@ module _ (p : Numbers) (f : ℕ) where
   pub same-answer : SameAnswer p f
   unfolding rebuildOf rebuildWith rebuildTests
   same-answer r b y z e =
-      call-answer p y (λ q. rebuildTests q node r b y) _ _ ∙ (rw e)
-      ∙ sym (call-answer p z (λ q. rebuildTests q node r b z) _ _)
+      call-answer p y (λ p. rebuildTests p node r b y) _ _ ∙ (rw e)
+      ∙ sym (call-answer p z (λ p. rebuildTests p node r b z) _ _)
 
   -- ---- rebuilds from what was cut
   pub cut-passes : CutPasses p f

@@ -22,7 +22,7 @@ use Rattle.document.proofs.Surveys.{
   result-open,
   by-result,
 }
-use Rattle.demands.specs.Survey.{NoneFails, Tells, failing, done, opened, joinedOutcome}
+use Rattle.demands.specs.Survey.{NoneFails, Tells, failing, done, left-open, joinedOutcome}
 
 -- ---- what a result says
 module _ (p : Profile) (acc : Accepted p) (start most : ℕ) (x : List ℕ) (within : start ≤ sets (p .n) (p .k)) where
@@ -56,7 +56,7 @@ module _ (p : Profile) (acc : Accepted p) (start most : ℕ) (x : List ℕ) (wit
       (λ h e.
       let all : looked ≡ most = omega arith in
       subst (λ (m : ℕ). Tells p start most x (Open m, x)) (sym all)
-      (opened (none-before (start + most) (omega arith) (omega arith))
+      (left-open (none-before (start + most) (omega arith) (omega arith))
       (omega arith)))
 
 -- ---- two ranges, one after the other

@@ -6,6 +6,7 @@ use mathlib.Core.List.{List}
 use Prim.Native.Nat.{ℕ, _+_, _*_, _<_}
 use native.Mathlib.Omega.{arith}
 use lib.ListN.{length, getD}
+use Rattle.lists.specs.Each.{Bytes}
 use Rattle.lists.specs.Listed.{listed}
 use Rattle.lists.proofs.Listed.{listed-ext, listed-getD}
 use Rattle.lists.proofs.Each.{each-at}
@@ -14,13 +15,13 @@ use Rattle.document.specs.declared.Node.{Node}
 use Rattle.document.specs.declared.Place.{Place}
 use Rattle.document.specs.Profile.{Accepted}
 use Rattle.document.specs.Places.{place, placeAt}
-use Rattle.document.specs.Bytes.{Byte, byte, number}
+use Rattle.document.specs.ByteField.{Byte, byte, number}
 use Rattle.document.specs.Encoding.{byteAt, columnOf, Stored, encoded, stripOf}
 use Rattle.document.specs.Plan.{Walk, chosenOver, planOver}
 use Rattle.document.specs.Message.{stripFieldLength}
 use Rattle.document.specs.Bundle.{bundleStrip}
 use Rattle.document.specs.Rebuild.{positionOf, givenAt, rebuiltOver, firstStrip}
-use Rattle.document.proofs.Bytes.{number-byte}
+use Rattle.document.proofs.ByteField.{number-byte}
 use Rattle.document.proofs.Walks.{Sound, complete-sound}
 use Rattle.document.proofs.Chosen.{choice, outside, shape, listed-planned, planned-listed, position, planned-within}
 use Rattle.document.proofs.Columns.{
@@ -34,7 +35,7 @@ use Rattle.document.proofs.Columns.{
   given-strip,
 }
 use Rattle.demands.specs.Encoding.{DocumentArray}
-use Rattle.demands.specs.Strips.{Bytes, EncodedArray, HasStrips, columnIn, Fits, OneColumn}
+use Rattle.demands.specs.Strips.{EncodedArray, HasStrips, columnIn, Fits, OneColumn}
 use Rattle.demands.proofs.Encoding.{encoded-is, encoded-only}
 
 module _ (p : Profile) (acc : Accepted p) (f : Node) (h : f .0 < p .n) (w : Walk)

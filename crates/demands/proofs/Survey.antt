@@ -36,7 +36,7 @@ use Rattle.demands.specs.Survey.{
   Tells,
   failing,
   done,
-  opened,
+  left-open,
   joinedOutcome,
   SurveyTells,
   FailsInReading,
@@ -63,15 +63,15 @@ module _ (p : Numbers) (start most : ℕ) (x : List ℕ) where
   answerOf s = (surveyAnswer (s .0), s .1)
 
   abbrev lookedAfter : Profile → ℕ
-  lookedAfter q = answerValue (surveyAnswer (resultOf q start most x .0))
+  lookedAfter p = answerValue (surveyAnswer (resultOf p start most x .0))
 
   told : answerOf (surveyOf p start most x)
       ≡ onAccepted p (λ r. (answers.Refused r, x))
-      (λ q. tried (surveyTests q start x) (λ r. (answers.Refused r, x))
-      (answers.Done (lookedAfter q), resultOf q start most x .1))
+      (λ p. tried (surveyTests p start x) (λ r. (answers.Refused r, x))
+      (answers.Done (lookedAfter p), resultOf p start most x .1))
   unfolding surveyOf surveyWith surveyAnswer answerValue
   told =
-      on-accepted-map answerOf p (λ r. (Refused r, x)) (λ q. surveyWith q start most x)
+      on-accepted-map answerOf p (λ r. (Refused r, x)) (λ p. surveyWith p start most x)
       ∙ on-accepted-same p (λ r. (answers.Refused r, x)) _ _
       (λ acc. tried-map answerOf (surveyTests (profileOf p) start x) _ (resultOf (profileOf p) start most x)
       ∙ ap (λ (a : Answer). tried (surveyTests (profileOf p) start x) (λ r. (answers.Refused r, x))
@@ -87,8 +87,8 @@ module _ (p : Numbers) (start most : ℕ) (x : List ℕ) where
   unfolding surveySentences numberOf indexOf
   demand-1-survey =
       rw told
-      (call-for p x (λ q. surveyTests q start x) (λ q. surveySentences q start x) lookedAfter
-      (λ q. resultOf q start most x .1) (λ acc. survey-decided _ start x) refl .exactly)
+      (call-for p x (λ p. surveyTests p start x) (λ p. surveySentences p start x) lookedAfter
+      (λ p. resultOf p start most x .1) (λ acc. survey-decided _ start x) refl .exactly)
 
 -- ---- a survey is refused, whatever the number of sets to look at, or it is allowed
 record Allowed (p : Numbers) (start : ℕ) (x : List ℕ) : Type 0 where
@@ -107,7 +107,7 @@ module _ (p : Numbers) (start : ℕ) (x : List ℕ) where
       ≡ tried (profileTests p ++ surveyTests (profileOf p) start x) (λ r. (Refused r, x))
       (resultOf (profileOf p) start most x)
   unfolding surveyOf surveyWith
-  survey-tried most = one-list p (λ r. (Refused r, x)) (λ q. surveyTests q start x) (λ q. resultOf q start most x)
+  survey-tried most = one-list p (λ r. (Refused r, x)) (λ p. surveyTests p start x) (λ p. resultOf p start most x)
 
   tests-decided : Decided (profileTests p ++ surveyTests (profileOf p) start x) (profileSentences p ++ own)
   tests-decided = profile-decided p (λ acc. survey-decided _ start x)
@@ -169,7 +169,7 @@ done-none : (p : Profile) (most looked : ℕ) (x : List ℕ) {outcome : Surveyed
     → outcome .0 ≡ Done looked → NoneFails p 0 (sets (p .n) (p .k))
 done-none p most looked x (failing a b f g c d) e = absurd (let z : _≡_ {A = ℕ} 0 1 = cc in omega arith)
 done-none p most looked x (done clear a b) e = clear
-done-none p most looked x (opened clear a) e = absurd (let z : _≡_ {A = ℕ} 0 1 = cc in omega arith)
+done-none p most looked x (left-open clear a) e = absurd (let z : _≡_ {A = ℕ} 0 1 = cc in omega arith)
 
 -- so each can be read.
 done-reads-all : DoneReadsAll

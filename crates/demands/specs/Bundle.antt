@@ -46,7 +46,7 @@ writeSentences p f x b =
 abbrev pub Demand1Write : Numbers → ℕ → Recording → List ℕ → List ℕ → Type 1
 Demand1Write p f r x b =
     let lost : Node = record { 0 = f } in
-    Demand1For p (λ q. writeTests q lost x b) (λ q. writeSentences q lost x b) ((4, 0) ∷ (5, 0) ∷ []) b
+    Demand1For p (λ p. writeTests p lost x b) (λ p. writeSentences p lost x b) ((4, 0) ∷ (5, 0) ∷ []) b
     (writeOf p f r x b)
 
 module _ (p : Numbers) (f : ℕ) (r : Recording) (x b : List ℕ) where

@@ -25,7 +25,7 @@ use Rattle.document.specs.declared.Place.{Place}
 use Rattle.document.specs.declared.Refusal.the-variants.{BufferLength}
 use Rattle.document.specs.Refusals.{answerNumber, answerValue}
 use Rattle.document.specs.Places.{place, partnerOf}
-use Rattle.document.specs.Bytes.{bytes, Byte, byte}
+use Rattle.document.specs.ByteField.{bytes, Byte, byte}
 use Rattle.document.specs.Profile.{Accepted, profileOf}
 use Rattle.document.specs.Encoding.{byteAt, Stored, encodeTests, encodeOf}
 use Rattle.demands.specs.Tables.{Sentence}
@@ -46,7 +46,7 @@ encodeSentences p d x =
 
 abbrev pub Demand1Encode : Numbers → List ℕ → List ℕ → Type 1
 Demand1Encode p d x =
-    Demand1For p (λ q. encodeTests q d x) (λ q. encodeSentences q d x) ((5, 0) ∷ []) x (encodeOf p d x)
+    Demand1For p (λ p. encodeTests p d x) (λ p. encodeSentences p d x) ((5, 0) ∷ []) x (encodeOf p d x)
 
 module _ (p : Profile) (d x : List ℕ) where
   open Profile p using (n, k, a as A, t, s as S)

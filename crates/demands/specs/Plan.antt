@@ -40,7 +40,7 @@ planSentences p f x =
 abbrev pub Demand1Plan : Numbers → ℕ → List ℕ → Type 1
 Demand1Plan p f x =
     let lost : Node = record { 0 = f } in
-    Demand1For p (λ q. planTests q lost x) (λ q. planSentences q lost x) ((4, 0) ∷ (5, 0) ∷ []) x (planOf p f x)
+    Demand1For p (λ p. planTests p lost x) (λ p. planSentences p lost x) ((4, 0) ∷ (5, 0) ∷ []) x (planOf p f x)
 
 pub record PlannedPlaces (p : Profile) (f : Node) (qs : List Place) : Type 0 where
   -- 'Nodes and rows count from 0.'
@@ -69,7 +69,7 @@ module _ (p : Numbers) (f : ℕ) (x : List ℕ) where
 
   pub record NamedPlaces : Type 0 where
     -- 'the plan names the places': two bytes each, and 'bytes past the plan stay'
-    pub written : planOf p f x .1 ≡ planBytes plan ++ drop (2 * length plan) x
+    pub holds : planOf p f x .1 ≡ planBytes plan ++ drop (2 * length plan) x
     -- 'Their number is the one the plan .. answers with'
     pub number : answerValue (planOf p f x .0) ≡ length plan
     -- the facts above, for these numbers

@@ -1,7 +1,7 @@
 -- The small program is an entry point too: 'Any bytes, any numbers, any time: every entry point answers'. What it
 -- writes, by the table of a rebuild.
 --
--- wanted input        : the profile that the input says is wanted
+-- numbers input       : the numbers of the profile that the input says is wanted
 -- node input          : the node
 -- recording input     : the recording
 -- bundle input        : the bundle that follows
@@ -21,14 +21,14 @@ use Rattle.document.specs.declared.Refusal.{Refusal}
 use Rattle.document.specs.declared.Refusal.the-variants.{BufferLength}
 use Rattle.document.specs.Profile.{profileOf}
 use Rattle.document.specs.Rebuild.{rebuildOf}
-use Rattle.document.specs.Program.{programHead, wantedNumbers, wantedNode, wantedRecording, lineOf, programOf}
+use Rattle.document.specs.Program.{programHead, wantedNumbers, wantedNode, wantedRecording, refusalLine, programOf}
 use Rattle.demands.specs.Tables.{Sentence, FirstOf}
 use Rattle.demands.specs.Profile.{profileSentences}
 use Rattle.demands.specs.Rebuild.{rebuildSentences, NotRefused}
 
 module _ (input : List ℕ) where
-  abbrev pub wanted : Numbers
-  wanted = wantedNumbers input
+  abbrev pub numbers : Numbers
+  numbers = wantedNumbers input
 
   abbrev node : ℕ
   node = wantedNode input
@@ -42,20 +42,20 @@ module _ (input : List ℕ) where
 
   -- the column that the program lends
   abbrev pub lent : List ℕ
-  lent = replicate (wanted .a * wanted .s) 0
+  lent = replicate (numbers .a * numbers .s) 0
 
   abbrev pub own : List Sentence
-  own = rebuildSentences (profileOf wanted) (record { 0 = node }) recording bundle lent
+  own = rebuildSentences (profileOf numbers) (record { 0 = node }) recording bundle lent
 
   abbrev pub table : List Sentence
-  table = profileSentences wanted ++ own
+  table = profileSentences numbers ++ own
 
   pub record ProgramWrites : Type 1 where
     -- 'It writes the column's bytes'
-    pub column : NotRefused wanted node recording bundle lent
-        → programOf input ≡ rebuildOf wanted node recording bundle lent .1
+    pub column : NotRefused numbers node recording bundle lent
+        → programOf input ≡ rebuildOf numbers node recording bundle lent .1
     -- 'or one line .. with the number and the strip's index'
-    pub line : (q : Refusal) → FirstOf table q → programOf input ≡ lineOf q
+    pub line : (q : Refusal) → FirstOf table q → programOf input ≡ refusalLine q
     -- the lent column has the right length
     pub never-five : FirstOf table BufferLength → ⊥
 

@@ -18,8 +18,9 @@
 use mathlib.Core.Path.{_≡_}
 use mathlib.Core.Logic.{_↔_}
 use mathlib.Core.List.{List, [], _∷_}
-use Prim.Native.Nat.{ℕ, _*_, _<_}
-use lib.ListN.{length, getD}
+use Prim.Native.Nat.{ℕ, _*_}
+use lib.ListN.{length}
+use Rattle.lists.specs.Each.{Bytes}
 use Rattle.ksets.specs.Sets.{Rising}
 use Rattle.document.specs.declared.Numbers.{Numbers}
 use Rattle.document.specs.declared.Profile.{Profile}
@@ -45,7 +46,7 @@ readSentences p nodes x y =
 
 abbrev pub Demand1Read : Numbers → List ℕ → List ℕ → List ℕ → Type 1
 Demand1Read p nodes x y =
-    Demand1For p (λ q. readTests q nodes x y) (λ q. readSentences q nodes x y) ((4, 0) ∷ (5, 0) ∷ (10, 0) ∷ []) y
+    Demand1For p (λ p. readTests p nodes x y) (λ p. readSentences p nodes x y) ((4, 0) ∷ (5, 0) ∷ (10, 0) ∷ []) y
     (readOf p nodes x y)
 
 -- None of the refusals 1 to 5 applies.
@@ -76,4 +77,4 @@ pub record ReadsOnlyData (p : Numbers) (nodes x y : List ℕ) : Type 0 where
 -- The columns that are lent are bytes.
 abbrev pub Demand2Reading : Type 0
 Demand2Reading =
-    (p : Numbers) (nodes x y : List ℕ) → ((e : ℕ) → e < length x → getD x e 0 < 256) → ReadsOnlyData p nodes x y
+    (p : Numbers) (nodes x y : List ℕ) → Bytes x → ReadsOnlyData p nodes x y

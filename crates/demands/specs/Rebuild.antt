@@ -26,6 +26,7 @@ use mathlib.Core.Logic.{_≢_}
 use mathlib.Core.List.{List, _∷_, _++_}
 use Prim.Native.Nat.{ℕ, _*_, _<_}
 use lib.ListN.{length}
+use Rattle.lists.specs.Each.{Bytes}
 use Rattle.lists.specs.Listed.{listed}
 use Rattle.document.specs.declared.Numbers.{Numbers}
 use Rattle.document.specs.declared.Profile.{Profile}
@@ -40,7 +41,7 @@ use Rattle.document.specs.Bundle.{bundleOf, bundleStrip}
 use Rattle.document.specs.Rebuild.{rebuildTests, rebuildOf}
 use Rattle.demands.specs.Tables.{Sentence}
 use Rattle.demands.specs.Profile.{Demand1For}
-use Rattle.demands.specs.Strips.{Bytes, EncodedArray, HasStrips, AlikeAt, columnIn}
+use Rattle.demands.specs.Strips.{EncodedArray, HasStrips, AlikeAt, columnIn}
 use Rattle.demands.specs.Bundle.{bundleSentences, CutFrom}
 
 -- 5: a column has AS bytes; 'other than the bundle to read'.
@@ -55,7 +56,7 @@ abbrev pub Demand1Rebuild : Numbers → ℕ → Recording → List ℕ → List 
 Demand1Rebuild p f r b y =
     let lost : Node = record { 0 = f } in
     let P : ℕ = length (planned (profileOf p) lost) in
-    Demand1For p (λ q. rebuildTests q lost r b y) (λ q. rebuildSentences q lost r b y)
+    Demand1For p (λ p. rebuildTests p lost r b y) (λ p. rebuildSentences p lost r b y)
     ((4, 0) ∷ (5, 0) ∷ (6, 0) ∷ (7, 0) ∷ (listed P (λ i. (8, i)) ++ listed P (λ i. (9, i)))) y (rebuildOf p f r b y)
 
 -- 'The rebuilt column is the AS bytes that a rebuild not refused leaves in the buffer lent for writing.'

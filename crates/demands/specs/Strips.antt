@@ -1,7 +1,6 @@
 -- Demand 3, what a rebuild rests on: 'Whatever bytes stand at those places, some encoded array has them, and the
 -- rebuilt column is the one every such array has on that drive.'
 --
--- Bytes x             : each entry of x is a byte
 -- EncodedArray p x    : x is an encoded array
 -- HasStrips p qs x v  : x has the strip v i at place i of qs, for each of the places qs
 -- AlikeAt p qs x y    : the arrays x and y are alike at the places qs
@@ -17,7 +16,8 @@
 use mathlib.Core.Path.{_≡_}
 use mathlib.Core.List.{List}
 use Prim.Native.Nat.{ℕ, _*_, _<_}
-use lib.ListN.{length, getD}
+use lib.ListN.{length}
+use Rattle.lists.specs.Each.{Bytes}
 use Rattle.lists.specs.Put.{slice}
 use Rattle.document.specs.declared.Profile.{Profile}
 use Rattle.document.specs.declared.Node.{Node}
@@ -27,9 +27,6 @@ use Rattle.document.specs.Places.{placeAt}
 use Rattle.document.specs.Encoding.{stripOf}
 use Rattle.document.specs.Plan.{Walk, Complete, planOver}
 use Rattle.demands.specs.Encoding.{DocumentArray}
-
-abbrev pub Bytes : List ℕ → Type 0
-Bytes x = (e : ℕ) → e < length x → getD x e 0 < 256
 
 -- 'An encoded array is a stored array that some data give.'
 pub record EncodedArray (p : Profile) (x : List ℕ) : Type 0 where

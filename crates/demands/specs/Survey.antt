@@ -53,7 +53,7 @@ surveySentences p start x =
 -- The answer of a survey is told as that of any call: refused or not.
 abbrev pub Demand1Survey : Numbers → ℕ → ℕ → List ℕ → Type 1
 Demand1Survey p start most x =
-    Demand1For p (λ q. surveyTests q start x) (λ q. surveySentences q start x) ((4, 0) ∷ (5, 0) ∷ []) x
+    Demand1For p (λ p. surveyTests p start x) (λ p. surveySentences p start x) ((4, 0) ∷ (5, 0) ∷ []) x
     (surveyAnswer (surveyOf p start most x .0), surveyOf p start most x .1)
 
 module _ (p : Profile) where
@@ -76,7 +76,7 @@ module _ (p : Profile) where
     done : {looked : ℕ} → NoneFails start (sets n k) → start + looked ≡ sets n k → looked ≤ most
         → Tells start most x (Done looked, x)
     -- 'otherwise open': B sets were looked at, and some are left
-    opened : NoneFails start (start + most) → start + most < sets n k → Tells start most x (Open most, x)
+    left-open : NoneFails start (start + most) → start + most < sets n k → Tells start most x (Open most, x)
 
 -- A survey that is not refused, for all numbers and bytes.
 abbrev pub SurveyTells : Type 0

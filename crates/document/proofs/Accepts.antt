@@ -112,11 +112,11 @@ failed-accepted p (shape, (constant, (strip, _))) =
 
 -- what a call makes of the outcome of `Profile::new`
 abbrev onChecked : {X : Type 0} → (Refusal → X) → (Profile → X) → Checked → X
-onChecked refuse go (Passed q) = go q
+onChecked refuse go (Passed profile) = go profile
 onChecked refuse go (Rejected r) = refuse r
 
 abbrev Sound : Checked → Type 0
-Sound (Passed q) = Accepted q
+Sound (Passed profile) = Accepted profile
 Sound (Rejected r) = Unit
 
 module _ (p : Numbers) where
@@ -125,7 +125,7 @@ module _ (p : Numbers) where
   sound = tried-by Sound (profileTests p) Rejected (Passed (profileOf p)) (λ r. tt) (failed-accepted p)
 
   -- A profile that `Profile::new` hands out is accepted.
-  pub accepted : {q : Profile} → checkedOf p ≡ Passed q → Accepted q
+  pub accepted : {profile : Profile} → checkedOf p ≡ Passed profile → Accepted profile
   accepted e = subst Sound e sound
 
   -- A call that goes by the outcome of `Profile::new` tries a profile's refusals first.
@@ -137,7 +137,7 @@ module _ (p : Numbers) where
     pub rejected : {r : Refusal} → checkedOf p ≡ Rejected r → refuse r ≡ onAccepted p refuse go
     rejected e = sym (ap (onChecked refuse go) e) ∙ head
 
-    pub passed : {q : Profile} → checkedOf p ≡ Passed q → go q ≡ onAccepted p refuse go
+    pub passed : {profile : Profile} → checkedOf p ≡ Passed profile → go profile ≡ onAccepted p refuse go
     passed e = sym (ap (onChecked refuse go) e) ∙ head
 
 -- Two calls that begin alike are alike if they are with an accepted profile.
@@ -148,13 +148,13 @@ on-accepted-same p refuse f g same = tried-same (profileTests p) refuse _ _ (λ 
 
 -- A function of what a call gives.
 pub on-accepted-map : {X Y : Type 0} (g : X → Y) (p : Numbers) (refuse : Refusal → X) (go : Profile → X)
-    → g (onAccepted p refuse go) ≡ onAccepted p (λ r. g (refuse r)) (λ q. g (go q))
+    → g (onAccepted p refuse go) ≡ onAccepted p (λ r. g (refuse r)) (λ p. g (go p))
 unfolding onAccepted
 on-accepted-map g p refuse go = tried-map g (profileTests p) refuse (go (profileOf p))
 
 -- A call that goes on with tests of its own tries all of them in a row.
 pub one-list : {X : Type 0} (p : Numbers) (refuse : Refusal → X) (tests : Profile → List Test) (x : Profile → X)
-    → onAccepted p refuse (λ q. tried (tests q) refuse (x q))
+    → onAccepted p refuse (λ p. tried (tests p) refuse (x p))
     ≡ tried (profileTests p ++ tests (profileOf p)) refuse (x (profileOf p))
 unfolding onAccepted
 one-list p refuse tests x = sym (tried-append (profileTests p) (tests (profileOf p)) refuse (x (profileOf p)))

@@ -17,7 +17,7 @@ use Rattle.document.specs.declared.Profile.{Profile}
 use Rattle.document.specs.declared.Place.{Place}
 use Rattle.document.specs.Profile.{Accepted}
 use Rattle.document.specs.Places.{place, localColumn, partnerOf, Within}
-use Rattle.document.specs.Bytes.{bytes, Byte, byte, number}
+use Rattle.document.specs.ByteField.{bytes, Byte, byte, number}
 use Rattle.document.specs.Encoding.{
   start,
   byteAt,
@@ -30,7 +30,7 @@ use Rattle.document.specs.Encoding.{
   coupled,
   encoded,
 }
-use Rattle.document.proofs.Bytes.{number-lt, number-byte, byte-number}
+use Rattle.document.proofs.ByteField.{number-lt, number-byte, byte-number}
 use Rattle.document.proofs.Bounds.{partner-within}
 
 infixl 65 _⊕_

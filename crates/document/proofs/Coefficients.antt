@@ -16,7 +16,7 @@ use Rattle.document.specs.declared.Profile.{Profile}
 use Rattle.document.specs.declared.Place.{Place}
 use Rattle.document.specs.Profile.{Accepted}
 use Rattle.document.specs.Places.{place, Within}
-use Rattle.document.specs.Bytes.{bytes, Byte, byte}
+use Rattle.document.specs.ByteField.{bytes, Byte, byte}
 use Rattle.document.specs.Encoding.{byteAt, baseAt, factorAt, coupledAt, encoded}
 use Rattle.document.specs.Reading.{coefficientAt, dataPlace}
 use Rattle.document.proofs.Bounds.{A>0}

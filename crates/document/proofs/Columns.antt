@@ -12,7 +12,7 @@ use Rattle.lists.specs.Put.{slice}
 use Rattle.lists.proofs.Listed.{listed-ext}
 use Rattle.lists.proofs.Slice.{slice-at, slice-listed}
 use Rattle.algebra.specs.Field.{Field}
-use Rattle.algebra.specs.Polynomial.{Distinct}
+use Rattle.algebra.specs.Polynomial.{DistinctPoints}
 use Rattle.algebra.specs.RowCode.{Choice}
 use Rattle.algebra.specs.Coupling.{Array, stored}
 use Rattle.algebra.specs.Encoding.{symbols, encode, Code, Encoded}
@@ -25,7 +25,7 @@ use Rattle.document.specs.declared.Profile.{Profile}
 use Rattle.document.specs.declared.Place.{Place}
 use Rattle.document.specs.Profile.{Accepted}
 use Rattle.document.specs.Places.{place, Within}
-use Rattle.document.specs.Bytes.{bytes, Byte, byte, number}
+use Rattle.document.specs.ByteField.{bytes, Byte, byte, number}
 use Rattle.document.specs.Encoding.{
   start,
   byteAt,
@@ -41,7 +41,7 @@ use Rattle.document.specs.Encoding.{
 use Rattle.document.specs.Message.{stripFieldLength, stripIn, stripFieldStart}
 use Rattle.document.specs.Bundle.{bundleStrip}
 use Rattle.document.specs.Rebuild.{firstStrip}
-use Rattle.document.proofs.Bytes.{number-byte, number-zero, number-one, points-distinct}
+use Rattle.document.proofs.ByteField.{number-byte, number-zero, number-one, points-distinct}
 use Rattle.document.proofs.Bounds.{room, A>0, n-is, strip-within}
 use Rattle.document.proofs.Arrays.{
   laid-length,
@@ -123,7 +123,7 @@ module _ (p : Profile) where
     pub constant-ne-one : (i l : ℕ) → i < A → l < i → constantOf p i l ≢ 𝟙
     constant-ne-one i l r h = constant-ne 1 𝟙 number-one (omega arith) i l
 
-    pub nodes-distinct : Distinct bytes n byte
+    pub nodes-distinct : DistinctPoints bytes n byte
     nodes-distinct = points-distinct n (omega (arith, acc .shape .few-nodes))
 
     abbrev pub coupled-code : Code bytes

@@ -3,9 +3,9 @@ use mathlib.Core.Path.{_≡_, sym, ap, _∙_}
 use Prim.Native.Nat.{ℕ, _<_}
 use Rattle.algebra.proofs.Coupling.{factor-diagonal, factor-upper, factor-lower}
 use Rattle.document.specs.declared.Profile.{Profile}
-use Rattle.document.specs.Bytes.{bytes, number}
+use Rattle.document.specs.ByteField.{bytes, number}
 use Rattle.document.specs.Encoding.{constantOf, factorAt}
-use Rattle.document.proofs.Bytes.{number-zero, number-one}
+use Rattle.document.proofs.ByteField.{number-zero, number-one}
 
 module _ (p : Profile) where
   pub factor-none : (i l : ℕ) → i ≡ l → 0 ≡ number (factorAt p i l)

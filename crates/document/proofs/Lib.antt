@@ -1,4 +1,4 @@
-pub mod Bytes
+pub mod ByteField
 pub mod Decides
 pub mod Refusals
 pub mod Accepts

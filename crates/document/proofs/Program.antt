@@ -19,7 +19,7 @@ use Rattle.document.specs.Program.{
   wantedNumbers,
   wantedNode,
   wantedRecording,
-  lineOf,
+  refusalLine,
   outputOf,
   programOf,
 }
@@ -33,13 +33,13 @@ module _ (p : Numbers) (f : ℕ) (r : Recording) (b : List ℕ) where
 
   -- a rebuild with an accepted profile, as the program tells it
   abbrev pub told : List ℕ → Profile → List ℕ
-  told y q = tried (rebuildTests q lost r b y) lineOf (rebuiltOf q lost b (firstStrip q) (stripFieldLength (q .s)))
+  told y q = tried (rebuildTests q lost r b y) refusalLine (rebuiltOf q lost b (firstStrip q) (stripFieldLength (q .s)))
 
-  pub output-is : (y : List ℕ) → outputOf (rebuildOf p f r b y) ≡ onAccepted p lineOf (told y)
+  pub output-is : (y : List ℕ) → outputOf (rebuildOf p f r b y) ≡ onAccepted p refusalLine (told y)
   unfolding rebuildOf rebuildWith outputOf
   output-is y =
-      on-accepted-map outputOf p (λ refusal. (Refused refusal, y)) (λ q. rebuildWith q lost r b y)
-      ∙ on-accepted-same p lineOf _ (told y)
+      on-accepted-map outputOf p (λ refusal. (Refused refusal, y)) (λ p. rebuildWith p lost r b y)
+      ∙ on-accepted-same p refusalLine _ (told y)
       (λ acc. tried-map outputOf (rebuildTests (profileOf p) lost r b y) (λ refusal. (Refused refusal, y)) (Done 0, _))
 
   -- a column of the right length is lent where the profile is accepted; elsewhere its length does not count
@@ -48,7 +48,7 @@ module _ (p : Numbers) (f : ℕ) (r : Recording) (b : List ℕ) where
   unfolding rebuildTests
   any-column y z ly lz =
       output-is y
-      ∙ on-accepted-same p lineOf (told y) (told z)
+      ∙ on-accepted-same p refusalLine (told y) (told z)
       (λ acc. let e : length y ≡ length z = omega (arith, column-bound (profileOf p) acc) in rw e refl)
       ∙ sym (output-is z)
 
@@ -61,5 +61,5 @@ program-answered input p same y h o e =
     ap outputOf e
     ∙ any-column p (wantedNode input) (wantedRecording input) (drop programHead input) y (replicate (p .a * p .s) 0) h
     (length-replicate (p .a * p .s) 0)
-    ∙ ap (λ (q : Numbers). outputOf
-    (rebuildOf q (wantedNode input) (wantedRecording input) (drop programHead input) (replicate (q .a * q .s) 0))) same
+    ∙ ap (λ (v : Numbers). outputOf
+    (rebuildOf v (wantedNode input) (wantedRecording input) (drop programHead input) (replicate (v .a * v .s) 0))) same

@@ -13,7 +13,7 @@ use Rattle.lists.specs.Listed.{listed}
 use Rattle.lists.proofs.Listed.{listed-length, listed-at, listed-holds}
 use Rattle.ksets.specs.Sets.{RisingFrom, none, next, Rising}
 use Rattle.algebra.specs.Field.{Field}
-use Rattle.algebra.specs.Square.{dot, Matrix, times, Solves, Kernel, Inverse}
+use Rattle.algebra.specs.Square.{dot, Matrix, image, Solves, Kernel, Inverse}
 use Rattle.algebra.proofs.Sum.{sum-ext}
 use Rattle.algebra.proofs.Square.{dot-ext, dot-zeros}
 use Rattle.square.specs.declared.Line.{Line}
@@ -22,7 +22,7 @@ use Rattle.document.specs.declared.Profile.{Profile}
 use Rattle.document.specs.declared.Place.{Place}
 use Rattle.document.specs.Profile.{Accepted}
 use Rattle.document.specs.Places.{place, Within}
-use Rattle.document.specs.Bytes.{bytes, Byte, byte, number}
+use Rattle.document.specs.ByteField.{bytes, Byte, byte, number}
 use Rattle.document.specs.Encoding.{byteAt, laidOut, Data, encoded}
 use Rattle.document.specs.Reading.{
   coefficientAt,
@@ -31,14 +31,14 @@ use Rattle.document.specs.Reading.{
   joinedPlace,
   joinedColumns,
   TwoData,
-  lineOf,
+  coefficientLine,
   squareOf,
   eliminationOf,
   ambiguous,
   inverseOf,
   dataFrom,
 }
-use Rattle.document.proofs.Bytes.{number-lt, number-byte, byte-number}
+use Rattle.document.proofs.ByteField.{number-lt, number-byte, byte-number}
 use Rattle.document.proofs.Bounds.{A>0}
 use Rattle.document.proofs.Arrays.{
   laid-length,
@@ -122,9 +122,9 @@ module _ (p : Profile) where
     square-line : (z : ℕ) → z < k * A
         → lineAt (squareOf p nodes) z
         ≡ listed (k * A) (λ e. number (coefficientAt p (joinedPlace p nodes z) (dataPlace p e)))
-    unfolding squareOf lineOf
+    unfolding squareOf coefficientLine
     square-line z h =
-        ap (λ (l : Line). l .c) (listed-at (k * A) (λ z. lineOf p (joinedPlace p nodes z)) z noLine h)
+        ap (λ (l : Line). l .c) (listed-at (k * A) (λ z. coefficientLine p (joinedPlace p nodes z)) z noLine h)
 
     -- there are kA of them
     square-length : length (squareOf p nodes) ≡ k * A
@@ -133,10 +133,10 @@ module _ (p : Profile) where
 
     -- each entry is a byte, a missing one too
     square-small : (z e : ℕ) → entry (squareOf p nodes) z e < 256
-    unfolding squareOf lineOf
+    unfolding squareOf coefficientLine
     square-small z e =
         listed-holds (λ (x : Line). getD (x .c) e 0 < 256) noLine (omega arith) (k * A)
-        (λ z. lineOf p (joinedPlace p nodes z)) (λ z. listed-small (k * A) _ e) z
+        (λ z. coefficientLine p (joinedPlace p nodes z)) (λ z. listed-small (k * A) _ e) z
 
     -- It has kA lines of kA bytes.
     pub square-shaped : Shaped (k * A) (k * A) (squareOf p nodes)
@@ -159,7 +159,7 @@ module _ (p : Profile) where
 
   -- the inverse applied to them
   abbrev solution : List ℕ → List ℕ → ℕ → ℕ → Byte
-  solution nodes x b = times bytes (k * A) (matrix (inverseOf p nodes)) (given x b)
+  solution nodes x b = image bytes (k * A) (matrix (inverseOf p nodes)) (given x b)
 
   -- What is read back is data, whatever the columns.
   pub read-data : (nodes x : List ℕ) → Data p (dataFrom p nodes x)
@@ -185,7 +185,7 @@ module _ (p : Profile) where
     -- The columns are the square applied to the data, at each byte offset.
     pub columns-times : (d : List ℕ) (b z : ℕ) → b < S → z < k * A
         → byteAt p (encoded p d) b (joinedPlace p nodes z)
-        ≡ times bytes (k * A) (matrix (squareOf p nodes)) (λ e. byteAt p d b (dataPlace p e)) z
+        ≡ image bytes (k * A) (matrix (squareOf p nodes)) (λ e. byteAt p d b (dataPlace p e)) z
     unfolding dot
     columns-times d b z l h =
         encoded-sum p acc d b (joinedPlace p nodes z) (joined-within z h) l
@@ -195,7 +195,7 @@ module _ (p : Profile) where
     -- The same of data that are given by the numbers of their symbols.
     laid-columns : (f : ℕ → ℕ → Byte) (b z : ℕ) → b < S → z < m
         → byteAt p (encoded p (laidOut p k (λ b q. f b (dataIndex p q)))) b (joinedPlace p nodes z)
-        ≡ times bytes m M (f b) z
+        ≡ image bytes m M (f b) z
     laid-columns f b z l h =
         columns-times (laidOut p k (λ b q. f b (dataIndex p q))) b z l h
         ∙ dot-ext bytes m (λ e u. refl) (λ e u. laid-symbol (acc .shape .some-data) f b e l u)

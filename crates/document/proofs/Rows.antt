@@ -9,9 +9,9 @@ use Rattle.algebra.proofs.Encoding.{symbols-data, symbols-word}
 use Rattle.document.specs.declared.Profile.{Profile}
 use Rattle.document.specs.Profile.{Accepted}
 use Rattle.document.specs.Places.{place}
-use Rattle.document.specs.Bytes.{bytes, byte}
+use Rattle.document.specs.ByteField.{bytes, byte}
 use Rattle.document.specs.Encoding.{byteAt, baseAt}
-use Rattle.document.proofs.Bytes.{points-distinct}
+use Rattle.document.proofs.ByteField.{points-distinct}
 
 module _ (p : Profile) (d : List ℕ) (b i : ℕ) where
   open Profile p using (n, k)

@@ -27,8 +27,8 @@ use Rattle.square.specs.declared.Line.{Line}
 use Rattle.square.specs.Steps.{noLine, lineAt, entry, stepped, lifted, multiplierAt, unitLine, unitSquare}
 use Rattle.strips.proofs.Added.{added-length, added-at, added-none}
 use Rattle.square.proofs.Steps.{stepped-length, stepped-at, stepped-rest}
-use Rattle.document.specs.Bytes.{bytes, Byte, byte}
-use Rattle.document.proofs.Bytes.{byte-zero, byte-one, byte-add, byte-mul, byte-inv, byte-ne}
+use Rattle.document.specs.ByteField.{bytes, Byte, byte}
+use Rattle.document.proofs.ByteField.{byte-zero, byte-one, byte-add, byte-mul, byte-inv, byte-ne}
 
 unfoldable pub matrix : List Line → ℕ → ℕ → Byte
 matrix s i j = byte (entry s i j)

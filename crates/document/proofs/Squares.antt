@@ -40,8 +40,8 @@ use Rattle.square.specs.declared.Eliminated.{Eliminated}
 use Rattle.square.specs.Elimination.{endFrom, eliminated, singular, kernelFrom}
 use Rattle.square.proofs.Pivots.{Pivoted, pivoted, unpivoted}
 use Rattle.square.proofs.Ends.{end-at, end-stuck}
-use Rattle.document.specs.Bytes.{bytes, Byte, byte}
-use Rattle.document.proofs.Bytes.{byte-zero, byte-one}
+use Rattle.document.specs.ByteField.{bytes, Byte, byte}
+use Rattle.document.proofs.ByteField.{byte-zero, byte-one}
 use Rattle.document.proofs.SquareSteps.{
   matrix-zero,
   matrix-nonzero,

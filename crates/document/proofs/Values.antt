@@ -133,16 +133,16 @@ module _ (p : Numbers) where
       (λ r h. record { position = zero-le; looked = zero-le }) (λ c. c)
       (next zero-le (λ e. next zero-le (λ f. done (counted acc (ltb-false (sets (p .n) (p .k)) start e))))))
     where
-      q : Profile
-      q = profileOf p
+      profile : Profile
+      profile = profileOf p
 
-      all : Accepted q → sets (p .n) (p .k) ≤ 2704156
+      all : Accepted profile → sets (p .n) (p .k) ≤ 2704156
       all acc = sets-bound (p .n) (p .k) (acc .shape .few-nodes)
 
-      counted : Accepted q → start ≤ sets (p .n) (p .k) → Counted (resultOf q start most x .0)
+      counted : Accepted profile → start ≤ sets (p .n) (p .k) → Counted (resultOf profile start most x .0)
       counted acc h =
           let b = all acc in
-          by-result q start most x (λ o. Counted (o .0))
+          by-result profile start most x (λ o. Counted (o .0))
           (λ u. record { position = omega arith; looked = omega arith })
           (λ u v. record { position = zero-le; looked = omega arith })
           (λ u v. record { position = zero-le; looked = omega arith })

@@ -77,7 +77,7 @@ writeWith p f r x b =
     tried (writeTests p f x b) (λ refusal. (Refused refusal, b)) (Done (length bundle), bundle)
 
 unfoldable pub writeOf : Numbers → ℕ → Recording → List ℕ → List ℕ → Answer × List ℕ
-writeOf p f r x b = onAccepted p (λ refusal. (Refused refusal, b)) (λ q. writeWith q (record { 0 = f }) r x b)
+writeOf p f r x b = onAccepted p (λ refusal. (Refused refusal, b)) (λ p. writeWith p (record { 0 = f }) r x b)
 
 -- ---- a bundle to read: 'The rebuild is given the wanted profile, node and scenario beside the bundle.'
 unfoldable pub bundleTests : Profile → Node → Recording → List ℕ → List Test

@@ -25,10 +25,11 @@
 use mathlib.Core.Path.{_≡_}
 use mathlib.Core.Bool.{_&&_, not}
 use mathlib.Core.List.{List, [], _∷_}
-use Prim.Native.Nat.{ℕ, _+_, _*_, _/_, _%_, _<_}
+use Prim.Native.Nat.{ℕ, _+_, _*_, _/_, _%_}
 use native.Mathlib.Decide.{ℕ-discrete, decLt}
 use lib.Dec.{eqb}
 use lib.ListN.{length, getD}
+use Rattle.lists.specs.Each.{Bytes}
 use Rattle.lists.specs.Listed.{listed}
 use Rattle.lists.specs.Put.{slice}
 use Rattle.algebra.specs.Field.{Field}
@@ -45,7 +46,7 @@ use Rattle.document.specs.declared.Answer.the-variants.{Done, Refused}
 use Rattle.document.specs.Refusals.{Test, tried}
 use Rattle.document.specs.Profile.{onAccepted}
 use Rattle.document.specs.Places.{place, localColumn, partnerOf}
-use Rattle.document.specs.Bytes.{bytes, Byte, byte, number}
+use Rattle.document.specs.ByteField.{bytes, Byte, byte, number}
 
 infixl 65 _⊕_
 infixl 70 _⊗_
@@ -97,12 +98,12 @@ module _ (p : Profile) where
   -- 'data use the same order with j < k': any kAS bytes
   pub record Data (d : List ℕ) : Type 0 where
     pub size : length d ≡ k * A * S
-    pub bytes-only : (e : ℕ) → e < length d → getD d e 0 < 256
+    pub bytes-only : Bytes d
 
   -- 'A stored array is any nAS bytes.'
   pub record Stored (x : List ℕ) : Type 0 where
     pub size : length x ≡ n * A * S
-    pub bytes-only : (e : ℕ) → e < length x → getD x e 0 < 256
+    pub bytes-only : Bytes x
 
   -- The array that the data d give. 'An encoded array is a stored array that some data give': it is this for some d.
   unfoldable pub encoded : List ℕ → List ℕ
@@ -128,4 +129,4 @@ unfoldable pub encodeWith : Profile → List ℕ → List ℕ → Answer × List
 encodeWith p d x = tried (encodeTests p d x) (λ r. (Refused r, x)) (Done 0, encoded p d)
 
 unfoldable pub encodeOf : Numbers → List ℕ → List ℕ → Answer × List ℕ
-encodeOf p d x = onAccepted p (λ r. (Refused r, x)) (λ q. encodeWith q d x)
+encodeOf p d x = onAccepted p (λ r. (Refused r, x)) (λ p. encodeWith p d x)

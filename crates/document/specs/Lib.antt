@@ -1,7 +1,7 @@
 pub mod Refusals
 pub mod Profile
 pub mod Places
-pub mod Bytes
+pub mod ByteField
 pub mod Encoding
 pub mod Plan
 pub mod Message

@@ -139,4 +139,4 @@ planWith p f x =
     tried (planTests p f x) (λ r. (Refused r, x)) (Done (length plan), planBytes plan ++ drop (2 * length plan) x)
 
 unfoldable pub planOf : Numbers → ℕ → List ℕ → Answer × List ℕ
-planOf p f x = onAccepted p (λ r. (Refused r, x)) (λ q. planWith q (record { 0 = f }) x)
+planOf p f x = onAccepted p (λ r. (Refused r, x)) (λ p. planWith p (record { 0 = f }) x)

@@ -6,7 +6,7 @@
 -- wantedNode input      : the wanted node
 -- wantedRecording input : the wanted recording
 -- decimal v             : a number below 100 in decimal digits
--- lineOf r              : the line for the refusal r
+-- refusalLine r              : the line for the refusal r
 -- outputOf outcome      : what is written for the outcome of a rebuild
 -- programOf input       : what the program writes
 use mathlib.Core.Bool.{cond}
@@ -53,15 +53,15 @@ decimal v = cond (ltb v 10) ((48 + v) ∷ []) ((48 + v / 10) ∷ (48 + v % 10) �
 
 -- 'one line such as `refused 8 at 0` with the number and the strip's index': "refused ", the number, " at ", the index,
 -- and the end of the line.
-unfoldable pub lineOf : Refusal → List ℕ
-lineOf r =
+unfoldable pub refusalLine : Refusal → List ℕ
+refusalLine r =
     0x72 ∷ 0x65 ∷ 0x66 ∷ 0x75 ∷ 0x73 ∷ 0x65 ∷ 0x64 ∷ 0x20
     ∷ (decimal (numberOf r) ++ (0x20 ∷ 0x61 ∷ 0x74 ∷ 0x20 ∷ (decimal (indexOf r) ++ (0x0A ∷ []))))
 
 -- 'It writes the column's bytes, or one line'
 unfoldable pub outputOf : Answer × List ℕ → List ℕ
 outputOf (Done v, column) = column
-outputOf (Refused r, column) = lineOf r
+outputOf (Refused r, column) = refusalLine r
 
 -- '.. and then a bundle, which is all that follows'. The column that the program lends to the rebuild has the right
 -- length.

@@ -8,7 +8,7 @@
 -- joinedPlace p nodes z     : the place of strip z of the named nodes' columns joined in list order
 -- joinedColumns p nodes x   : those columns of the array x
 -- TwoData p nodes           : some two different data give equal columns on the named nodes
--- lineOf p q                : the coefficients of all data symbols in what is stored at the place q
+-- coefficientLine p q                : the coefficients of all data symbols in what is stored at the place q
 -- squareOf p nodes          : the coefficient square: a line for each strip of the joined columns
 -- eliminationOf p nodes     : its elimination, beside the unit square
 -- ambiguous p nodes         : the test of refusal 10
@@ -48,7 +48,7 @@ use Rattle.document.specs.declared.Answer.the-variants.{Done, Refused}
 use Rattle.document.specs.Refusals.{Test, tried}
 use Rattle.document.specs.Profile.{onAccepted}
 use Rattle.document.specs.Places.{place}
-use Rattle.document.specs.Bytes.{bytes, Byte, byte, number}
+use Rattle.document.specs.ByteField.{bytes, Byte, byte, number}
 use Rattle.document.specs.Encoding.{byteAt, coupledAt, laidOut, Data, encoded}
 
 infixl 70 _⊗_
@@ -98,12 +98,12 @@ module _ (p : Profile) where
     pub differ : first ≢ second
     pub alike : joinedColumns nodes (encoded p first) ≡ joinedColumns nodes (encoded p second)
 
-  unfoldable pub lineOf : Place → Line
-  lineOf q = record { c = listed (k * A) (λ e. number (coefficientAt q (dataPlace e))) }
+  unfoldable pub coefficientLine : Place → Line
+  coefficientLine q = record { c = listed (k * A) (λ e. number (coefficientAt q (dataPlace e))) }
 
   -- 'The coefficient square of one reading, at most 80 by 80 field elements'
   unfoldable pub squareOf : List ℕ → List Line
-  squareOf nodes = listed (k * A) (λ z. lineOf (joinedPlace nodes z))
+  squareOf nodes = listed (k * A) (λ z. coefficientLine (joinedPlace nodes z))
 
   unfoldable pub eliminationOf : List ℕ → Eliminated
   eliminationOf nodes = eliminated (k * A) (k * A) (squareOf nodes) (unitSquare (k * A))
@@ -136,4 +136,4 @@ unfoldable pub readWith : Profile → List ℕ → List ℕ → List ℕ → Ans
 readWith p nodes x y = tried (readTests p nodes x y) (λ r. (Refused r, y)) (Done 0, dataFrom p nodes x)
 
 unfoldable pub readOf : Numbers → List ℕ → List ℕ → List ℕ → Answer × List ℕ
-readOf p nodes x y = onAccepted p (λ r. (Refused r, y)) (λ q. readWith q nodes x y)
+readOf p nodes x y = onAccepted p (λ r. (Refused r, y)) (λ p. readWith p nodes x y)

@@ -31,7 +31,7 @@ use Rattle.document.specs.declared.Answer.the-variants.{Done, Refused}
 use Rattle.document.specs.Refusals.{Test, tried}
 use Rattle.document.specs.Profile.{onAccepted}
 use Rattle.document.specs.Places.{place, samePlace}
-use Rattle.document.specs.Bytes.{bytes, Byte, byte}
+use Rattle.document.specs.ByteField.{bytes, Byte, byte}
 use Rattle.document.specs.Encoding.{factorAt, columnOf}
 use Rattle.document.specs.Plan.{Walk, walkOf, chosenOver, planned}
 use Rattle.document.specs.Message.{recordingLength, headLength, stripFieldLength}
@@ -73,4 +73,4 @@ rebuildWith p f r b y =
     (Done 0, rebuiltOf p f b (firstStrip p) (stripFieldLength (p .s)))
 
 unfoldable pub rebuildOf : Numbers → ℕ → Recording → List ℕ → List ℕ → Answer × List ℕ
-rebuildOf p f r b y = onAccepted p (λ refusal. (Refused refusal, y)) (λ q. rebuildWith q (record { 0 = f }) r b y)
+rebuildOf p f r b y = onAccepted p (λ refusal. (Refused refusal, y)) (λ p. rebuildWith p (record { 0 = f }) r b y)

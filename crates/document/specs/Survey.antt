@@ -73,7 +73,7 @@ unfoldable pub surveyWith : Profile → ℕ → ℕ → List ℕ → Surveyed ×
 surveyWith p start most x = tried (surveyTests p start x) (λ r. (Refused r, x)) (resultOf p start most x)
 
 unfoldable pub surveyOf : Numbers → ℕ → ℕ → List ℕ → Surveyed × List ℕ
-surveyOf p start most x = onAccepted p (λ r. (Refused r, x)) (λ q. surveyWith q start most x)
+surveyOf p start most x = onAccepted p (λ r. (Refused r, x)) (λ p. surveyWith p start most x)
 
 -- 'On success the answer is 0': what a survey has in common with every other call.
 unfoldable pub surveyAnswer : Surveyed → answer.Answer

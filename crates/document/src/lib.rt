@@ -2,7 +2,7 @@
 ghost use mathlib.Core.Path.{_≡_};
 ghost use Prim.Native.Nat.{_/_, _%_, _<_};
 ghost use Rattle.document.specs.Refusals.{numberOf, indexOf};
-ghost use Rattle.document.specs.Bytes.{number};
+ghost use Rattle.document.specs.ByteField.{number};
 ghost use Rattle.document.specs.Profile.{Accepted, shapeAccepted, checkedOf};
 ghost use Rattle.document.specs.Places.{place, partnerOf, Within};
 ghost use Rattle.document.specs.Encoding;

@@ -16,9 +16,9 @@ use Rattle.document.specs.declared.Profile.{Profile}
 use Rattle.document.specs.declared.Place.{Place}
 use Rattle.document.specs.Profile.{Accepted}
 use Rattle.document.specs.Places.{place}
-use Rattle.document.specs.Bytes.{bytes, Byte, byte, number}
+use Rattle.document.specs.ByteField.{bytes, Byte, byte, number}
 use Rattle.document.specs.Encoding.{start, byteAt, baseAt, laidOut, columnOf}
-use Rattle.document.proofs.Bytes.{number-byte, byte-number}
+use Rattle.document.proofs.ByteField.{number-byte, byte-number}
 use Rattle.coefficients.proofs.Combination.{sum-bytes}
 use Rattle.document.proofs.Bounds.{A>0}
 use Rattle.document.proofs.Rows.{row-data}

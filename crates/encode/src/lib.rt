@@ -70,6 +70,6 @@ pub fn encode(p: Numbers, input: &[u8], array: &mut [u8]) -> Answer
     let checked = Profile::new(p);
     match checked {
         Checked::Rejected(r) => Answer::Refused(r),
-        Checked::Passed(q) => encode_with(q, input, array),
+        Checked::Passed(profile) => encode_with(profile, input, array),
     }
 }

@@ -18,7 +18,7 @@ use Rattle.algebra.specs.Pick.{pick}
 use Rattle.algebra.specs.Polynomial.{eval}
 use Rattle.algebra.specs.RowCode.{Choice, Codeword}
 use Rattle.algebra.specs.Coupling.{Array, stored}
-use Rattle.algebra.specs.Square.{times, Kernel, Inverse, Matrix}
+use Rattle.algebra.specs.Square.{image, Kernel, Inverse, Matrix}
 use Rattle.algebra.specs.HalfPairs.{Positions, Selected, opposite, halfFactor, known, knownPartner}
 use Rattle.algebra.proofs.Field.{add-zero, zero-mul, mul-zero}
 use Rattle.algebra.proofs.RowCode.{determined}
@@ -27,7 +27,7 @@ use Rattle.algebra.proofs.HalfPairs.{named-symbol, partners-solve, Blank, blank
 use Rattle.document.specs.declared.Profile.{Profile}
 use Rattle.document.specs.Profile.{Accepted}
 use Rattle.document.specs.Places.{place}
-use Rattle.document.specs.Bytes.{bytes, Byte, byte}
+use Rattle.document.specs.ByteField.{bytes, Byte, byte}
 use Rattle.document.specs.Encoding.{byteAt, baseAt, factorAt, laidOut, Data, encoded}
 use Rattle.document.specs.Reading.{joinedColumns, TwoData, ambiguous}
 use Rattle.document.proofs.Bounds.{A>0}
@@ -112,7 +112,7 @@ module _ (p : Profile) (nodes : List ℕ) where
 
       pub solved : {T : Matrix bytes} → Inverse bytes U U (systemAt p nodes) T → (e : ℕ) → e < U
           → partnerSymbol symbols (halfPairAt p nodes e)
-          ≡ times bytes U T (λ e. knownPartnerOf x b (halfPairAt p nodes e)) e
+          ≡ image bytes U T (λ e. knownPartnerOf x b (halfPairAt p nodes e)) e
       solved I =
           I .unique _ _
           (partners-solve bytes (coupled-code p acc) (named nodes) (positionIn nodes) choice positions U

@@ -29,11 +29,11 @@ use Rattle.square.proofs.Steps.{filled-at, filled-rest, filled-length, set-at}
 use Rattle.document.specs.declared.Profile.{Profile}
 use Rattle.document.specs.declared.Place.{Place}
 use Rattle.document.specs.Profile.{Accepted}
-use Rattle.document.specs.Bytes.{bytes, Byte, byte, number}
+use Rattle.document.specs.ByteField.{bytes, Byte, byte, number}
 use Rattle.document.specs.Encoding.{factorAt}
 use Rattle.document.specs.Reading.{ambiguous}
 use Rattle.document.proofs.Bounds.{square-bound}
-use Rattle.document.proofs.Bytes.{number-lt, byte-number, number-zero, number-one, number-add}
+use Rattle.document.proofs.ByteField.{number-lt, byte-number, number-zero, number-one, number-add}
 use Rattle.document.proofs.SquareSteps.{matrix, Shaped, unit-square}
 use Rattle.document.proofs.Squares.{regular, stuck-kernel, null-kernel}
 use Rattle.lists.specs.Positions.{positionIn}

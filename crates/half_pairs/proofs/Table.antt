@@ -17,7 +17,7 @@ use Rattle.algebra.specs.Weight.{weight}
 use Rattle.algebra.specs.HalfPairs.{weightAt}
 use Rattle.document.specs.declared.Profile.{Profile}
 use Rattle.document.specs.Profile.{Accepted}
-use Rattle.document.specs.Bytes.{bytes, byte, number}
+use Rattle.document.specs.ByteField.{bytes, byte, number}
 use Rattle.document.proofs.Bounds.{room, table-bound}
 use Rattle.coefficients.specs.Weights.{Different, Outside, points, weightsOf}
 use Rattle.lists.specs.Positions.{positionIn}

@@ -42,7 +42,7 @@ use Rattle.square.specs.Elimination.{eliminated}
 use Rattle.document.specs.declared.Profile.{Profile}
 use Rattle.document.specs.declared.Place.{Place}
 use Rattle.document.specs.Places.{partnerOf}
-use Rattle.document.specs.Bytes.{bytes, Byte, byte, number}
+use Rattle.document.specs.ByteField.{bytes, Byte, byte, number}
 use Rattle.document.specs.Encoding.{factorAt}
 use Rattle.document.specs.Reading.{joinedPlace}
 use Rattle.coefficients.specs.Weights.{weightsOf}

@@ -9,7 +9,7 @@ ghost use Rattle.lists.specs.Put.{Wrote};
 ghost use Rattle.ksets.specs.Sets.{Rising};
 ghost use Rattle.document.specs.Profile.{Accepted};
 ghost use Rattle.document.specs.Places.{Within};
-ghost use Rattle.document.specs.Bytes.{number};
+ghost use Rattle.document.specs.ByteField.{number};
 ghost use Rattle.document.specs.Reading.{joinedPlace};
 ghost use Rattle.coefficients.specs.Weights.{denominatorsOf};
 ghost use Rattle.half_pairs.specs.HalfPairs.{positionTable, isNamed, isHalfPair, partnerAt, halfPairs};

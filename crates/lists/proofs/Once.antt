@@ -12,55 +12,55 @@ use lib.Dec.{eqb, ltb}
 use lib.ListN.{length, getD}
 use borrow.Author.Tests.{ltb-true, lt-ltb, le-ltb, eq-eqb, ne-eqb}
 use Rattle.lists.specs.Listed.{rising}
-use Rattle.lists.specs.Each.{Each, none, also, Distinct, empty, new, times, ListsOnce}
+use Rattle.lists.specs.Each.{Each, none, also, Distinct, empty, new, occurrences, ListsOnce}
 use Rattle.lists.proofs.Each.{each-map}
 use Rattle.lists.proofs.Rising.{count-next, count-one}
 
 -- ---- how often a number stands in a list
-times-here : (j : ℕ) (xs : List ℕ) → times j (j ∷ xs) ≡ suc (times j xs)
-unfolding times
-times-here j xs = rw (eq-eqb j j refl) (omega arith)
+occurrences-here : (j : ℕ) (xs : List ℕ) → occurrences j (j ∷ xs) ≡ suc (occurrences j xs)
+unfolding occurrences
+occurrences-here j xs = rw (eq-eqb j j refl) (omega arith)
 
-times-later : (j x : ℕ) (xs : List ℕ) → times j xs ≤ times j (x ∷ xs)
-unfolding times
-times-later j x xs = omega arith
+occurrences-later : (j x : ℕ) (xs : List ℕ) → occurrences j xs ≤ occurrences j (x ∷ xs)
+unfolding occurrences
+occurrences-later j x xs = omega arith
 
-times-other : (j x : ℕ) (xs : List ℕ) → j ≢ x → times j (x ∷ xs) ≡ times j xs
-unfolding times
-times-other j x xs h = rw (ne-eqb j x h, zero-add)
+occurrences-other : (j x : ℕ) (xs : List ℕ) → j ≢ x → occurrences j (x ∷ xs) ≡ occurrences j xs
+unfolding occurrences
+occurrences-other j x xs h = rw (ne-eqb j x h, zero-add)
 
-times-append : (j : ℕ) (xs ys : List ℕ) → times j (xs ++ ys) ≡ times j xs + times j ys
-unfolding times
-times-append j [] ys = sym (zero-add (times j ys))
-times-append j (x ∷ xs) ys =
-    ap (λ (m : ℕ). cond (eqb j x) 1 0 + m) (times-append j xs ys)
-    ∙ sym (add-assoc (cond (eqb j x) 1 0) (times j xs) (times j ys))
+occurrences-append : (j : ℕ) (xs ys : List ℕ) → occurrences j (xs ++ ys) ≡ occurrences j xs + occurrences j ys
+unfolding occurrences
+occurrences-append j [] ys = sym (zero-add (occurrences j ys))
+occurrences-append j (x ∷ xs) ys =
+    ap (λ (m : ℕ). cond (eqb j x) 1 0 + m) (occurrences-append j xs ys)
+    ∙ sym (add-assoc (cond (eqb j x) 1 0) (occurrences j xs) (occurrences j ys))
 
 -- what holds of each number that stands in a list
-members : {R : ℕ → Type 0} (xs : List ℕ) → ((j : ℕ) → 0 < times j xs → R j) → Each R xs
+members : {R : ℕ → Type 0} (xs : List ℕ) → ((j : ℕ) → 0 < occurrences j xs → R j) → Each R xs
 members [] h = none
 members (x ∷ xs) h =
-    also (h x (omega (arith, times-here x xs))) (members xs (λ j l. h j (omega (arith, times-later j x xs))))
+    also (h x (omega (arith, occurrences-here x xs))) (members xs (λ j l. h j (omega (arith, occurrences-later j x xs))))
 
-absent : (j : ℕ) (xs : List ℕ) → times j xs ≡ 0 → Each (λ y. j ≢ y) xs
-absent j xs h = members xs (λ y l e. omega (arith, ap (λ (i : ℕ). times i xs) e))
+absent : (j : ℕ) (xs : List ℕ) → occurrences j xs ≡ 0 → Each (λ y. j ≢ y) xs
+absent j xs h = members xs (λ y l e. omega (arith, ap (λ (i : ℕ). occurrences i xs) e))
 
-at-most-once : (xs : List ℕ) → ((j : ℕ) → times j xs ≤ 1) → Distinct xs
+at-most-once : (xs : List ℕ) → ((j : ℕ) → occurrences j xs ≤ 1) → Distinct xs
 at-most-once [] h = empty
 at-most-once (x ∷ xs) h =
-    new (absent x xs (omega (arith, h x, times-here x xs)))
-    (at-most-once xs (λ j. omega (arith, h j, times-later j x xs)))
+    new (absent x xs (omega (arith, h x, occurrences-here x xs)))
+    (at-most-once xs (λ j. omega (arith, h j, occurrences-later j x xs)))
 
-stands : (j : ℕ) (xs : List ℕ) → 0 < times j xs → (i : ℕ) × (i < length xs) × (getD xs i 0 ≡ j)
-unfolding times
+stands : (j : ℕ) (xs : List ℕ) → 0 < occurrences j xs → (i : ℕ) × (i < length xs) × (getD xs i 0 ≡ j)
+unfolding occurrences
 stands j [] h = absurd (not-suc-le-zero h)
 stands j (x ∷ xs) h = go (ℕ-discrete j x) (stands j xs)
   where
-    go : Dec (j ≡ x) → (0 < times j xs → (i : ℕ) × (i < length xs) × (getD xs i 0 ≡ j))
+    go : Dec (j ≡ x) → (0 < occurrences j xs → (i : ℕ) × (i < length xs) × (getD xs i 0 ≡ j))
         → (i : ℕ) × (i < length (x ∷ xs)) × (getD (x ∷ xs) i 0 ≡ j)
     go (yes e) later = (0, omega arith, sym e)
     go (no e) later =
-        let found = later (omega (arith, times-other j x xs e)) in
+        let found = later (omega (arith, occurrences-other j x xs e)) in
         (suc (found .0), omega (arith, found .1), found .2)
 
 -- ---- sums over the numbers below n
@@ -90,12 +90,12 @@ total-count zero P = refl
 total-count (suc n) P = ap (λ (m : ℕ). m + cond (P n) 1 0) (total-count n P) ∙ sym (count-next n P)
 
 -- a list of numbers below n has as many entries as those numbers stand in it
-total-times : (n : ℕ) {xs : List ℕ} → Each (λ j. j < n) xs → total n (λ j. times j xs) ≡ length xs
-unfolding times
-total-times n none = total-zero n
-total-times n (also {x = x} {xs = xs} h hs) =
-    total-add n (λ j. cond (eqb j x) 1 0) (λ j. times j xs)
-    ∙ ap₂ (λ (u v : ℕ). u + v) (total-count n (λ j. eqb j x) ∙ count-one n x h) (total-times n hs)
+total-occurrences : (n : ℕ) {xs : List ℕ} → Each (λ j. j < n) xs → total n (λ j. occurrences j xs) ≡ length xs
+unfolding occurrences
+total-occurrences n none = total-zero n
+total-occurrences n (also {x = x} {xs = xs} h hs) =
+    total-add n (λ j. cond (eqb j x) 1 0) (λ j. occurrences j xs)
+    ∙ ap₂ (λ (u v : ℕ). u + v) (total-count n (λ j. eqb j x) ∙ count-one n x h) (total-occurrences n hs)
     ∙ omega arith
 
 -- ---- each number below n for which P holds, once
@@ -121,24 +121,24 @@ module _ (n : ℕ) (P : ℕ → Bool) where
 
     pub once-length : length xs ≡ length (rising n P)
     once-length =
-        sym (total-times n (each-map (λ j r. r .1) once-each))
-        ∙ total-ext n (λ j. times j xs) (λ j. cond (P j) 1 0) (λ j h. once j ∙ simp (lt-ltb j n h))
+        sym (total-occurrences n (each-map (λ j r. r .1) once-each))
+        ∙ total-ext n (λ j. occurrences j xs) (λ j. cond (P j) 1 0) (λ j h. once j ∙ simp (lt-ltb j n h))
         ∙ total-count n P
 
     pub once-has : (j : ℕ) → j < n → P j ≡ true → (i : ℕ) × (i < length xs) × (getD xs i 0 ≡ j)
     once-has j h e =
-        let listed : times j xs ≡ 1 = once j ∙ simp (lt-ltb j n h, e) in
+        let listed : occurrences j xs ≡ 1 = once j ∙ simp (lt-ltb j n h, e) in
         stands j xs (omega (arith, listed))
 
 pub rising-once : (n : ℕ) (P : ℕ → Bool) → ListsOnce n P (rising n P)
-unfolding rising times
+unfolding rising occurrences
 rising-once zero P j = simp (le-ltb j 0 (omega arith))
 rising-once (suc n) P j =
-    times-append j (rising n P) (cond (P n) (n ∷ []) [])
+    occurrences-append j (rising n P) (cond (P n) (n ∷ []) [])
     ∙ ap₂ (λ (u v : ℕ). u + v) (rising-once n P j) (last (eqb j n) (P n) refl)
     ∙ go (ℕ-discrete j n) (decLt j n)
   where
-    last : (a b : Bool) → eqb j n ≡ a → times j (cond b (n ∷ []) []) ≡ cond (a && b) 1 0
+    last : (a b : Bool) → eqb j n ≡ a → occurrences j (cond b (n ∷ []) []) ≡ cond (a && b) 1 0
     last true true e = rw e refl
     last true false e = refl
     last false true e = rw e refl

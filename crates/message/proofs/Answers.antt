@@ -15,7 +15,7 @@ use Rattle.document.specs.declared.Answer.the-variants.{Done, Refused}
 use Rattle.document.specs.Refusals.{Test, tried}
 use Rattle.document.specs.Message.{formed, headed, messageTests}
 use Rattle.document.proofs.Tried.{tried-holds, tried-not, tried-first, tried-none}
-use Rattle.message.specs.Bytes.{placesFrom}
+use Rattle.message.specs.PlaceBytes.{placesFrom}
 use Rattle.message.specs.Reader.{placedIn, freshIn, FirstNot}
 use Rattle.message.proofs.Places.{places-length}
 

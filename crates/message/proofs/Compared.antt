@@ -31,7 +31,7 @@ use Rattle.document.specs.Message.{
   headed,
 }
 use Rattle.document.proofs.Message.{profile-length}
-use Rattle.message.specs.Bytes.{Bounded}
+use Rattle.message.specs.PlaceBytes.{Bounded}
 use Rattle.message.specs.Reader.{FieldsFit, openedIn}
 
 -- ---- one field 03, which starts at an offset

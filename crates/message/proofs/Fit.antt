@@ -8,7 +8,7 @@ use Rattle.document.specs.declared.Profile.{Profile}
 use Rattle.document.specs.Profile.{Accepted, maxNodes, maxRows, maxStrip}
 use Rattle.document.specs.Message.{headLength, stripFieldLength, stripFieldStart}
 use Rattle.document.proofs.Bounds.{room}
-use Rattle.message.specs.Bytes.{Bounded}
+use Rattle.message.specs.PlaceBytes.{Bounded}
 use Rattle.message.specs.Reader.{FieldsFit}
 
 module _ (p : Profile) (m : ℕ) where

@@ -20,7 +20,7 @@ use Rattle.document.proofs.Bounds.{room}
 use Rattle.document.proofs.PlanBytes.{bytes-length, bytes-place}
 use Rattle.document.proofs.Message.{fields-length}
 use Rattle.document.proofs.Bundle.{strip-length}
-use Rattle.message.specs.Bytes.{placeFrom, placesFrom}
+use Rattle.message.specs.PlaceBytes.{placeFrom, placesFrom}
 
 pub places-length : (bs : List ℕ) → length (placesFrom bs) ≡ length bs / 2
 unfolding placesFrom

@@ -16,7 +16,7 @@ use Rattle.document.specs.declared.Recording.{Recording}
 use Rattle.document.specs.Profile.{Accepted}
 use Rattle.document.specs.Places.{placeAt}
 use Rattle.document.specs.Message.{opened, placed, fresh, stripFieldStart}
-use Rattle.message.specs.Bytes.{Bounded}
+use Rattle.message.specs.PlaceBytes.{Bounded}
 
 pub record FieldsFit (p : Profile) (m P : ℕ) (b : List ℕ) : Type 0 where
   pub accepted : Accepted p

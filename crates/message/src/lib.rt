@@ -14,7 +14,7 @@ ghost use Rattle.document.specs.Encoding.{stripOf};
 ghost use Rattle.document.specs.Message.{recordingBytes, recordingLength, profileContent, profileFieldLength};
 ghost use Rattle.document.specs.Message.{stripContent, stripFieldLength, headLength, messageLength, stripFields};
 ghost use Rattle.document.specs.Message.{messageOf, stripFieldStart};
-ghost use Rattle.message.specs.Bytes.{placesFrom, Bounded};
+ghost use Rattle.message.specs.PlaceBytes.{placesFrom, Bounded};
 
 mod reader;
 

@@ -10,7 +10,7 @@ ghost use Rattle.document.specs.Refusals.{tried};
 ghost use Rattle.document.specs.Profile.{Accepted};
 ghost use Rattle.document.specs.Message;
 ghost use Rattle.document.specs.Message.{recordingLength, headLength, messageTests};
-ghost use Rattle.message.specs.Bytes.{placesFrom, Bounded};
+ghost use Rattle.message.specs.PlaceBytes.{placesFrom, Bounded};
 ghost use Rattle.message.specs.Reader.{FieldsFit, openedIn, placedIn, freshIn, FirstNot};
 use crate::PLACED;
 use crate::place_at;

@@ -162,6 +162,6 @@ pub fn plan(p: Numbers, lost: usize, places: &mut [u8]) -> Answer
     let checked = Profile::new(p);
     match checked {
         Checked::Rejected(r) => Answer::Refused(r),
-        Checked::Passed(q) => plan_with(q, Node(lost), places),
+        Checked::Passed(profile) => plan_with(profile, Node(lost), places),
     }
 }

@@ -34,11 +34,11 @@ use Rattle.square.specs.Steps.{lineAt, entry}
 use Rattle.document.specs.declared.Profile.{Profile}
 use Rattle.document.specs.Profile.{Accepted}
 use Rattle.document.specs.Places.{place}
-use Rattle.document.specs.Bytes.{bytes, Byte, byte, number}
+use Rattle.document.specs.ByteField.{bytes, Byte, byte, number}
 use Rattle.document.specs.Encoding.{byteAt, baseAt, factorAt, encoded}
 use Rattle.document.specs.Reading.{joinedColumns, dataFrom}
 use Rattle.document.proofs.Bounds.{A>0}
-use Rattle.document.proofs.Bytes.{byte-number, byte-zero, number-add, number-mul}
+use Rattle.document.proofs.ByteField.{byte-number, byte-zero, number-add, number-mul}
 use Rattle.document.proofs.Arrays.{laid-only, laid-bytes}
 use Rattle.document.proofs.Rows.{row-word, row-data}
 use Rattle.document.proofs.Columns.{nodes-distinct}

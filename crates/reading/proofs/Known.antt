@@ -18,10 +18,10 @@ use Rattle.strips.specs.Strips.{stripAt}
 use Rattle.strips.proofs.Strip.{strip-length}
 use Rattle.document.specs.declared.Profile.{Profile}
 use Rattle.document.specs.Profile.{Accepted}
-use Rattle.document.specs.Bytes.{bytes, Byte, byte, number}
+use Rattle.document.specs.ByteField.{bytes, Byte, byte, number}
 use Rattle.document.specs.Encoding.{factorAt}
 use Rattle.document.proofs.Bounds.{A>0}
-use Rattle.document.proofs.Bytes.{number-byte}
+use Rattle.document.proofs.ByteField.{number-byte}
 use Rattle.lists.specs.Positions.{positionIn}
 use Rattle.coupling.specs.Pairs.{uncoupledStrip}
 use Rattle.half_pairs.specs.HalfPairs.{named, partnerAt, joinedAt}

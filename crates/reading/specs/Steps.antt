@@ -27,7 +27,7 @@ use Rattle.document.specs.declared.Profile.{Profile}
 use Rattle.document.specs.declared.Refusal.the-variants.{Ambiguous}
 use Rattle.document.specs.declared.Answer.{Answer}
 use Rattle.document.specs.declared.Answer.the-variants.{Done, Refused}
-use Rattle.document.specs.Bytes.{bytes, byte, number}
+use Rattle.document.specs.ByteField.{bytes, byte, number}
 use Rattle.document.specs.Encoding.{factorAt}
 use Rattle.document.specs.Reading.{ambiguous, dataFrom}
 use Rattle.lists.specs.Positions.{positionIn}

@@ -332,6 +332,6 @@ pub fn read_back(p: Numbers, nodes: &[u8], columns: &[u8], output: &mut [u8]) ->
     let checked = Profile::new(p);
     match checked {
         Checked::Rejected(r) => Answer::Refused(r),
-        Checked::Passed(q) => read_with(q, nodes, columns, output),
+        Checked::Passed(profile) => read_with(profile, nodes, columns, output),
     }
 }

@@ -12,8 +12,8 @@ use Rattle.coefficients.specs.Weights.{points, weightsOf}
 use Rattle.coefficients.proofs.Lists.{quotients-listed}
 use Rattle.document.specs.declared.Profile.{Profile}
 use Rattle.document.specs.declared.Node.{Node}
-use Rattle.document.specs.Bytes.{bytes, Byte, byte, number}
-use Rattle.document.proofs.Bytes.{number-mul, number-inv}
+use Rattle.document.specs.ByteField.{bytes, Byte, byte, number}
+use Rattle.document.proofs.ByteField.{number-mul, number-inv}
 use Rattle.coupling.specs.Pairs.{multipleOf}
 use Rattle.coupling.proofs.Multiples.{multiple-listed}
 use Rattle.rebuild.specs.Rows.{memberAt, determinantAt, determinantsOf, scaleAt, coefficientsOf}

@@ -18,11 +18,11 @@ use Rattle.document.specs.declared.Node.{Node}
 use Rattle.document.specs.declared.Place.{Place}
 use Rattle.document.specs.Profile.{Accepted}
 use Rattle.document.specs.Places.{place}
-use Rattle.document.specs.Bytes.{bytes, Byte, byte}
+use Rattle.document.specs.ByteField.{bytes, Byte, byte}
 use Rattle.document.specs.Encoding.{constantOf, columnOf, factorAt}
 use Rattle.document.specs.Plan.{rowAt, Walk, walkOf, chosenOver, nodesOver}
 use Rattle.document.specs.Rebuild.{rebuiltOver}
-use Rattle.document.proofs.Bytes.{byte-number}
+use Rattle.document.proofs.ByteField.{byte-number}
 use Rattle.document.proofs.Decides.{decides-false}
 use Rattle.document.proofs.Walks.{Sound, walk-sound}
 use Rattle.document.proofs.Chosen.{chosen-length, choice, outside, own-found}

@@ -14,10 +14,10 @@ use Rattle.algebra.proofs.Pick.{pick-yes, pick-no}
 use Rattle.document.specs.declared.Profile.{Profile}
 use Rattle.document.specs.declared.Node.{Node}
 use Rattle.document.specs.Profile.{Accepted}
-use Rattle.document.specs.Bytes.{number}
+use Rattle.document.specs.ByteField.{number}
 use Rattle.document.specs.Encoding.{factorAt}
 use Rattle.document.proofs.Bounds.{A>0}
-use Rattle.document.proofs.Bytes.{number-one, number-add}
+use Rattle.document.proofs.ByteField.{number-one, number-add}
 use Rattle.coupling.proofs.Determinants.{determinant-above}
 use Rattle.rebuild.specs.Rows.{determinantsOf, ownScaleAt, scaleAt}
 

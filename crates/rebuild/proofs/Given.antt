@@ -17,10 +17,10 @@ use Rattle.document.specs.declared.Place.{Place}
 use Rattle.document.specs.Profile.{Accepted}
 use Rattle.document.specs.Places.{place, partnerOf}
 use Rattle.document.specs.Encoding.{factorAt}
-use Rattle.document.specs.Bytes.{Byte, byte, number}
+use Rattle.document.specs.ByteField.{Byte, byte, number}
 use Rattle.document.specs.Plan.{isOffDiagonal, rowAt, walkOf, nodesOver, planned, plannedAt}
 use Rattle.document.specs.Rebuild.{positionOf, givenAt}
-use Rattle.document.proofs.Bytes.{number-byte, number-add, number-mul}
+use Rattle.document.proofs.ByteField.{number-byte, number-add, number-mul}
 use Rattle.document.proofs.Bounds.{A>0}
 use Rattle.document.proofs.Walks.{walk-sound}
 use Rattle.document.proofs.Planned.{over-distinct}

@@ -23,8 +23,8 @@ use Rattle.coefficients.proofs.Combination.{sum-bytes}
 use Rattle.document.specs.declared.Profile.{Profile}
 use Rattle.document.specs.declared.Node.{Node}
 use Rattle.document.specs.Encoding.{factorAt}
-use Rattle.document.specs.Bytes.{bytes, byte, number}
-use Rattle.document.proofs.Bytes.{number-zero, number-add, number-mul, byte-number, byte-right}
+use Rattle.document.specs.ByteField.{bytes, byte, number}
+use Rattle.document.proofs.ByteField.{number-zero, number-add, number-mul, byte-number, byte-right}
 use Rattle.rebuild.specs.Rows.{memberAt, ownScaleAt, foldedCoefficientAt, coefficientsOf}
 use Rattle.rebuild.specs.Rows.{ownFrom, foldedSum, rowFrom}
 

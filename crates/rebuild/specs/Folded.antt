@@ -17,7 +17,7 @@ use Rattle.document.specs.declared.Node.{Node}
 use Rattle.document.specs.declared.Place.{Place}
 use Rattle.document.specs.Places.{localColumn, partnerOf}
 use Rattle.document.specs.Encoding.{factorAt}
-use Rattle.document.specs.Bytes.{bytes, Byte, number}
+use Rattle.document.specs.ByteField.{bytes, Byte, number}
 use Rattle.document.specs.Plan.{isOffDiagonal, rowAt, planned, plannedAt}
 use Rattle.plan.specs.Steps.{placesAt}
 

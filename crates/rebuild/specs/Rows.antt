@@ -24,7 +24,7 @@ use Rattle.algebra.specs.Coupling.{partnerNode, pair}
 use Rattle.algebra.specs.Rows.{scale, coefficient}
 use Rattle.document.specs.declared.Profile.{Profile}
 use Rattle.document.specs.declared.Node.{Node}
-use Rattle.document.specs.Bytes.{bytes, Byte, byte, number}
+use Rattle.document.specs.ByteField.{bytes, Byte, byte, number}
 use Rattle.document.specs.Encoding.{factorAt}
 
 unfoldable pub foldedSum : Profile → List ℕ → List ℕ → ℕ → Byte

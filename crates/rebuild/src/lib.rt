@@ -5,7 +5,7 @@ ghost use mathlib.Core.Logic.{_≢_};
 ghost use mathlib.Core.List.{[], _∷_};
 ghost use Prim.Native.Nat.{_+_, _*_, _<_, _-_, _%_, _≤_};
 ghost use lib.ListN.{length};
-ghost use Rattle.document.specs.Bytes.{number};
+ghost use Rattle.document.specs.ByteField.{number};
 ghost use Rattle.document.specs.Profile.{Accepted};
 ghost use Rattle.document.specs.Plan.{walkOf, chosenOver, nodesOver, planned};
 ghost use Rattle.document.specs.Rebuild.{givenAt, rebuiltOf, rebuildWith, rebuildOf};
@@ -322,6 +322,6 @@ pub fn rebuild(p: Numbers, lost: usize, r: Recording, bundle: &[u8], column: &mu
     let checked = Profile::new(p);
     match checked {
         Checked::Rejected(refusal) => Answer::Refused(refusal),
-        Checked::Passed(q) => rebuild_with(q, Node(lost), r, bundle, column),
+        Checked::Passed(profile) => rebuild_with(profile, Node(lost), r, bundle, column),
     }
 }

@@ -22,7 +22,7 @@ use Rattle.document.specs.Program.{
   wantedNumbers,
   wantedNode,
   wantedRecording,
-  lineOf,
+  refusalLine,
   outputOf,
   programOf,
 }
@@ -72,7 +72,7 @@ module _ (input : List ℕ) (p : Numbers) (same : p ≡ wantedNumbers input) (y 
       (front x rest size ∙ sym (ap (λ (a : Answer). outputOf (a, x)) d) ∙ output)
 
   pub line-answered : {r : Refusal} → answer ≡ Refused r → {d out : List ℕ} {n : ℕ} → 17 ≤ length out
-      → Wrote d 0 (lineOf r) n out → Answered input n out
+      → Wrote d 0 (refusalLine r) n out → Answered input n out
   unfolding outputOf
   line-answered {r} d {out = out} {n = n} room w =
       answered input out n (omega (arith, w .ends, line-length r))

@@ -26,7 +26,7 @@ use Rattle.document.specs.Program.{
   wantedNumbers,
   wantedNode,
   wantedRecording,
-  lineOf,
+  refusalLine,
   outputOf,
   programOf,
 }
@@ -48,10 +48,10 @@ form-refused : (node lent form₁ form₂ : Bool) (ts us : List Test) (x y : Lis
     → (node ≡ true → (form₁ ≡ false) × (form₂ ≡ false))
     → tried
     (record { refusal = OutOfRange; holds = not node } ∷ record { refusal = BufferLength; holds = lent }
-    ∷ record { refusal = Form; holds = not form₁ } ∷ ts) lineOf x
+    ∷ record { refusal = Form; holds = not form₁ } ∷ ts) refusalLine x
     ≡ tried
     (record { refusal = OutOfRange; holds = not node } ∷ record { refusal = BufferLength; holds = lent }
-    ∷ record { refusal = Form; holds = not form₂ } ∷ us) lineOf y
+    ∷ record { refusal = Form; holds = not form₂ } ∷ us) refusalLine y
 unfolding tried
 form-refused false lent form₁ form₂ ts us x y h = refl
 form-refused true true form₁ form₂ ts us x y h = refl
@@ -63,7 +63,7 @@ too-long : (p : Numbers) (f : ℕ) (r : Recording) (b c y : List ℕ)
 unfolding rebuildTests bundleTests messageTests
 too-long p f r b c y lb lc =
     output-is p f r b y
-    ∙ on-accepted-same p lineOf (told p f r b y) (told p f r c y)
+    ∙ on-accepted-same p refusalLine (told p f r b y) (told p f r c y)
     (λ acc. form-refused (ltb f (p .n)) _ _ _ _ _ _ _
     (λ h. (
       not-formed (profileOf p) acc (record { 0 = f }) (ltb-true f (p .n) h) r b lb,

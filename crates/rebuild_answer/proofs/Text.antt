@@ -13,7 +13,7 @@ use Rattle.lists.specs.Put.{put, Wrote}
 use Rattle.lists.proofs.Put.{wrote-one, wrote-then, wrote-same}
 use Rattle.document.specs.declared.Refusal.{Refusal}
 use Rattle.document.specs.Refusals.{numberOf, indexOf}
-use Rattle.document.specs.Program.{decimal, lineOf}
+use Rattle.document.specs.Program.{decimal, refusalLine}
 
 -- ---- decimal digits
 module _ (d : List ℕ) (at v : ℕ) where
@@ -53,8 +53,8 @@ atText = 0x20 ∷ 0x61 ∷ 0x74 ∷ 0x20 ∷ []
 -- the three writes of a line
 pub line-written : {d₀ d₁ d₂ d₃ : List ℕ} {a b n number index : ℕ} (r : Refusal)
     → Wrote d₀ 0 (refusedText ++ decimal number) a d₁ → Wrote d₁ a (atText ++ decimal index) b d₂
-    → Wrote d₂ b (0x0A ∷ []) n d₃ → number ≡ numberOf r → index ≡ indexOf r → Wrote d₀ 0 (lineOf r) n d₃
-unfolding lineOf
+    → Wrote d₂ b (0x0A ∷ []) n d₃ → number ≡ numberOf r → index ≡ indexOf r → Wrote d₀ 0 (refusalLine r) n d₃
+unfolding refusalLine
 line-written {number = number} {index = index} r u v w ne ie =
     wrote-same
     (append-assoc (refusedText ++ decimal number) (atText ++ decimal index) (0x0A ∷ [])
@@ -64,13 +64,13 @@ line-written {number = number} {index = index} r u v w ne ie =
     (wrote-then zero-le (wrote-then zero-le u v) w)
 
 -- a line written at the start: so many bytes, and no others
-pub line-taken : {d e : List ℕ} {n : ℕ} (r : Refusal) → Wrote d 0 (lineOf r) n e → take n e ≡ lineOf r
+pub line-taken : {d e : List ℕ} {n : ℕ} (r : Refusal) → Wrote d 0 (refusalLine r) n e → take n e ≡ refusalLine r
 unfolding put
 line-taken {d} r w =
-    rw (w .holds, w .ends, zero-add) (take-append-seam (lineOf r) (drop (length (lineOf r)) d))
+    rw (w .holds, w .ends, zero-add) (take-append-seam (refusalLine r) (drop (length (refusalLine r)) d))
 
-pub line-length : (r : Refusal) → length (lineOf r) ≤ 17
-unfolding lineOf
+pub line-length : (r : Refusal) → length (refusalLine r) ≤ 17
+unfolding refusalLine
 line-length r =
     omega (
       arith,

@@ -7,7 +7,7 @@ ghost use Rattle.lists.specs.Put.{Wrote};
 ghost use Rattle.document.specs.Refusals.{indexOf};
 ghost use Rattle.document.specs.Rebuild.{rebuildOf};
 ghost use Rattle.document.specs.Program.{byteIn, programHead, wantedNumbers, wantedNode, wantedRecording};
-ghost use Rattle.document.specs.Program.{decimal, lineOf};
+ghost use Rattle.document.specs.Program.{decimal, refusalLine};
 ghost use Rattle.rebuild_answer.specs.Room.{longestInput};
 ghost use Rattle.rebuild_answer.specs.Answered.{Answered};
 use document::Answer;
@@ -111,7 +111,7 @@ fn put_number(out: &mut [u8], at: usize, text: &[u8], v: usize) -> usize
 // Writes the line for a refusal.
 fn put_line(out: &mut [u8], r: Refusal) -> usize
     requires { ⌜ (17 ≤ length (now out)) × (indexOf r < 100) ⌝ }
-    ensures { λ n. ⌜ Wrote (now (out .entry)) 0 (lineOf r) n (now (out .exit)) ⌝ }
+    ensures { λ n. ⌜ Wrote (now (out .entry)) 0 (refusalLine r) n (now (out .exit)) ⌝ }
 {
     let number = put_number(out, 0, b"refused ", r.number() as usize);
     let index = put_number(out, number, b" at ", r.index());

@@ -32,7 +32,7 @@ use Rattle.document.specs.declared.Surveyed.{Surveyed}
 use Rattle.document.specs.declared.Answer.{Answer}
 use Rattle.document.specs.Refusals.{tried, numberOf, indexOf, answerNumber, answerValue}
 use Rattle.algebra.specs.Coupling.{base, factor}
-use Rattle.algebra.specs.Rebuild.{rowAt, otherAt, rebuiltAt}
+use Rattle.algebra.specs.Rebuild.{rowSymbol, otherAt, rebuiltAt}
 use Rattle.document.specs.Places.{samePlace}
 use Rattle.document.specs.Message.{
   recordingBytes,
@@ -50,7 +50,7 @@ use Rattle.document.specs.Message.{
 use Rattle.document.specs.Bundle.{lostContent, bundleTests}
 use Rattle.document.specs.Rebuild.{positionOf, givenAt, rebuiltOver, rebuiltOf, rebuildTests, rebuildWith, rebuildOf}
 use Rattle.document.specs.Profile.{shapeAccepted, constantAccepted, stripAccepted, profileTests, onAccepted}
-use Rattle.document.specs.Bytes.{bytes, byte, number}
+use Rattle.document.specs.ByteField.{bytes, byte, number}
 use Rattle.document.specs.Encoding.{
   start,
   byteAt,
@@ -80,7 +80,7 @@ use Rattle.document.specs.Plan.{
 use Rattle.document.specs.Reading.{
   listAccepted,
   coefficientAt,
-  lineOf,
+  coefficientLine,
   squareOf,
   eliminationOf,
   ambiguous,
@@ -195,7 +195,7 @@ unfolding marked lent encodeOf encodeWith encodeTests onAccepted profileTests sh
     pairsAt planBytes isOwn isDiagonal isOffDiagonal rising rebuildOf rebuildWith rebuildTests bundleTests messageTests opened formed headed
     placed fresh placeIn recordingIn stripFieldStart plannedAt slice same all opening twoBytes fourBytes
     profileContent lostContent recordingBytes rebuiltOf rebuiltOver givenAt positionOf samePlace columnOf
-    rebuiltAt rowAt otherAt base factor readOf readWith readTests listAccepted numberOf ambiguous indexOf eliminationOf squareOf
-    lineOf coefficientAt endFrom pivotIn lifted stepped filled multiplierAt addedScaled patched unitSquare unitLine
+    rebuiltAt rowSymbol otherAt base factor readOf readWith readTests listAccepted numberOf ambiguous indexOf eliminationOf squareOf
+    coefficientLine coefficientAt endFrom pivotIn lifted stepped filled multiplierAt addedScaled patched unitSquare unitLine
     surveyOf surveyWith surveyTests resultOf foundFrom failsAt firstIn sets setAt surveyAnswer outcomeNumber failingPosition lookedIn
 shown = refl

@@ -24,15 +24,15 @@ unfolding combinationOf
 combination-at ws src first stride len b h = listed-at len _ b 0 h
 
 -- the weights are bytes
-abbrev Bytes : List ℕ → Type 0
-Bytes ws = (q : ℕ) → getD ws q 0 < 256
+abbrev ByteWeights : List ℕ → Type 0
+ByteWeights ws = (q : ℕ) → getD ws q 0 < 256
 
 shifted-none : (ws : List ℕ) → shiftedBy 0 ws ≡ ws
 unfolding shiftedBy
 shifted-none [] = refl
 shifted-none (w ∷ ws) = ap₂ (λ (v : ℕ) (vs : List ℕ). v ∷ vs) (div-one w) (shifted-none ws)
 
-sum-shifted-out : (ws src : List ℕ) (at stride : ℕ) → Bytes ws → sumOf (shiftedBy 8 ws) src at stride ≡ 0
+sum-shifted-out : (ws src : List ℕ) (at stride : ℕ) → ByteWeights ws → sumOf (shiftedBy 8 ws) src at stride ≡ 0
 unfolding sumOf shiftedBy
 sum-shifted-out [] src at stride h = refl
 sum-shifted-out (w ∷ ws) src at stride h =
@@ -57,7 +57,7 @@ weight-bit w i s h =
     ∙ ap (λ (v : ℕ). double (v ⊗ s) ⊕ ((w / 2 ^ i % 2) ⊗ s)) (shr-shr w i 1 ∙ ap (λ (k : ℕ). w / 2 ^ k) (add-one i))
 
 module _ (i : ℕ) (src : List ℕ) (stride : ℕ) where
-  sum-bit : (ws : List ℕ) (at : ℕ) → Bytes ws
+  sum-bit : (ws : List ℕ) (at : ℕ) → ByteWeights ws
       → sumOf (shiftedBy i ws) src at stride
       ≡ double (sumOf (shiftedBy (suc i) ws) src at stride) ⊕ sumOf (bitsAt i ws) src at stride
   unfolding sumOf shiftedBy bitsAt
@@ -67,7 +67,7 @@ module _ (i : ℕ) (src : List ℕ) (stride : ℕ) where
       ∙ double-sort _ _ _ _
 
 -- a step of the rule
-pub horner : (i : ℕ) (ws src : List ℕ) (first stride len : ℕ) (x y : List ℕ) → Bytes ws → 0 < i
+pub horner : (i : ℕ) (ws src : List ℕ) (first stride len : ℕ) (x y : List ℕ) → ByteWeights ws → 0 < i
     → x ≡ combinationOf (shiftedBy i ws) src first stride len → y ≡ planeOf (i - 1) ws src first stride x
     → y ≡ combinationOf (shiftedBy (i - 1) ws) src first stride len
 unfolding planeOf combinationOf
@@ -87,7 +87,7 @@ horner i ws src first stride len x y h k e f =
         ∙ sym (sum-bit (i - 1) src stride ws (first + b) h)))
 
 -- where the rule begins and ends
-pub horner-none : (ws src : List ℕ) (first stride len : ℕ) → Bytes ws
+pub horner-none : (ws src : List ℕ) (first stride len : ℕ) → ByteWeights ws
     → listed len (λ b. 0) ≡ combinationOf (shiftedBy 8 ws) src first stride len
 unfolding combinationOf
 horner-none ws src first stride len h =

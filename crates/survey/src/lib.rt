@@ -121,6 +121,6 @@ pub fn survey(p: Numbers, start: usize, most: usize, set: &mut [u8]) -> Surveyed
     let checked = Profile::new(p);
     match checked {
         Checked::Rejected(r) => Surveyed::Refused(r),
-        Checked::Passed(q) => survey_with(q, start, most, set),
+        Checked::Passed(profile) => survey_with(profile, start, most, set),
     }
 }

@@ -6,7 +6,7 @@ use borrow.Author.Needs.{needs}
 use lib.ListN.{length, length-set, set}
 use lib.Seq.{length-take-le}
 use Rattle.gf256.specs.Field.{productOf}
-use Rattle.document.specs.Bytes.{bytes}
+use Rattle.document.specs.ByteField.{bytes}
 use Rattle.coefficients.specs.Weights.{points, differencesOf, denominatorOf}
 use Rattle.lists.proofs.Lent.{front-fits, front-set}
 use Rattle.coefficients.proofs.Lists.{product-set}

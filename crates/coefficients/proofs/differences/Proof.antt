@@ -7,7 +7,7 @@ use lib.ListN.{length, getD}
 use Rattle.lists.specs.Listed.{listed}
 use Rattle.lists.proofs.Written.{Written, written-none, written-all, written-more}
 use Rattle.gf256.specs.Field.{_⊕_}
-use Rattle.document.specs.Bytes.{bytes, byte, number}
+use Rattle.document.specs.ByteField.{bytes, byte, number}
 use Rattle.coefficients.specs.Weights.{points, differencesOf}
 use Rattle.coefficients.proofs.Lagrange.{difference}
 use Rattle.coefficients.proofs.differences.Statement.{statement}

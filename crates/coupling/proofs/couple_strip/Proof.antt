@@ -7,7 +7,7 @@ use lib.ListN.{length}
 use Rattle.document.specs.declared.Profile.{Profile}
 use Rattle.document.specs.declared.Place.{Place}
 use Rattle.document.specs.Places.{place, partnerOf, Within}
-use Rattle.document.specs.Bytes.{number}
+use Rattle.document.specs.ByteField.{number}
 use Rattle.document.specs.Encoding as E
 use Rattle.document.specs.Encoding.{constantOf}
 use Rattle.document.proofs.Bounds.{A>0, room, place-within, partner-within}

@@ -11,10 +11,10 @@ use Rattle.gf256.specs.Field.{_⊗_}
 use Rattle.ksets.proofs.Ranked.{risen-length}
 use Rattle.algebra.specs.HalfPairs.{weightAt}
 use Rattle.document.specs.declared.Place.{Place}
-use Rattle.document.specs.Bytes.{bytes, byte, number}
+use Rattle.document.specs.ByteField.{bytes, byte, number}
 use Rattle.document.specs.Encoding.{factorAt}
 use Rattle.document.proofs.Bounds.{A>0, table-bound}
-use Rattle.document.proofs.Bytes.{number-mul}
+use Rattle.document.proofs.ByteField.{number-mul}
 use Rattle.half_pairs.specs.HalfPairs.{named}
 use Rattle.half_pairs.proofs.Table.{weight-table-length, weight-entry}
 use Rattle.half_pairs.proofs.System.{coefficient-row, coefficient-part}

@@ -11,7 +11,7 @@ use Rattle.square.proofs.Steps.{filled-none, filled-next}
 use Rattle.document.specs.declared.Profile.{Profile}
 use Rattle.document.specs.declared.Place.{Place}
 use Rattle.document.specs.Places.{Within}
-use Rattle.document.specs.Bytes.{number}
+use Rattle.document.specs.ByteField.{number}
 use Rattle.half_pairs.specs.HalfPairs.{isNamed, partnerAt, halfPairs, halfPairAt, coefficientIn}
 use Rattle.half_pairs.proofs.Named.{joined-partner-within}
 use Rattle.half_pairs.proofs.Symbols.{half-each}

@@ -13,14 +13,14 @@ use Rattle.half_pairs.proofs.System.{few-halves}
 use Rattle.half_pairs.proofs.system_square.Statement.{statement}
 use Rattle.half_pairs.proofs.system_square.Tie as tie
 
-abbrev lineOf : Profile → List ℕ → ℕ → Line
-lineOf p nodes e = record { c = systemLine p nodes e }
+abbrev systemLineOf : Profile → List ℕ → ℕ → Line
+systemLineOf p nodes e = record { c = systemLine p nodes e }
 
 abbrev blank : List Line
 blank = replicate 80 (record { c = replicate 80 0 })
 
 abbrev Inv-loop : tie.InvT-loop
-Inv-loop p nodes table halves s₀ e₀ s e = (e ≤ length halves) × (s ≡ filled (lineOf p nodes) blank e)
+Inv-loop p nodes table halves s₀ e₀ s e = (e ≤ length halves) × (s ≡ filled (systemLineOf p nodes) blank e)
 
 abbrev μ-loop : tie.MeasureT-loop
 μ-loop p nodes table halves s₀ e₀ s e = length halves - e
@@ -56,7 +56,7 @@ loop-again c =
     let l = c .before .before .loop in (
       omega (arith, c .before .loop-test .taken),
       ap₂ (λ (x : List Line) (y : List ℕ). set x (l .e) (record { c = y })) (l .inv .1) (c .system-line .ensures)
-          ∙ filled-next (lineOf (s .args .p) (s .args .nodes .now)) blank (l .e),
+          ∙ filled-next (systemLineOf (s .args .p) (s .args .nodes .now)) blank (l .e),
     )
 
 returns : tie.Need-returns Inv-loop μ-loop
@@ -66,7 +66,7 @@ returns c =
     let s = c .before .before .before .before .before in
     let done : l .e ≡ length (halfPairs (s .args .p) (s .args .nodes .now)) =
     omega (arith, c .loop-test .left, l .inv .0, ap length (s .pre .1)) in
-    l .inv .1 ∙ ap (filled (lineOf (s .args .p) (s .args .nodes .now)) blank) done
+    l .inv .1 ∙ ap (filled (systemLineOf (s .args .p) (s .args .nodes .now)) blank) done
 
 pub system-square-spec : {M : Type 1} → statement M
 system-square-spec =

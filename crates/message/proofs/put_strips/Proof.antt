@@ -14,7 +14,7 @@ use Rattle.document.specs.Places.{place, Within}
 use Rattle.document.specs.Encoding.{stripOf}
 use Rattle.document.specs.Message.{stripFields}
 use Rattle.document.proofs.Message.{fieldAt, fields-next}
-use Rattle.message.specs.Bytes.{placeFrom, placesFrom}
+use Rattle.message.specs.PlaceBytes.{placeFrom, placesFrom}
 use Rattle.message.proofs.Places.{places-length, places-at, next-fits}
 use Rattle.message.proofs.put_strips.Statement.{statement}
 use Rattle.message.proofs.put_strips.Tie as tie

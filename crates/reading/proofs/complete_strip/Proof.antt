@@ -11,7 +11,7 @@ use Rattle.ksets.proofs.Ranked.{risen-length}
 use Rattle.strips.specs.Strips.{combinationOf, addedScaled}
 use Rattle.document.specs.declared.Profile.{Profile}
 use Rattle.document.specs.declared.Place.{Place}
-use Rattle.document.specs.Bytes.{number}
+use Rattle.document.specs.ByteField.{number}
 use Rattle.document.specs.Encoding.{factorAt}
 use Rattle.document.proofs.Bounds.{room, data-bound}
 use Rattle.half_pairs.specs.HalfPairs.{named, halfPairs, halfPairAt}

@@ -15,7 +15,7 @@ use Rattle.document.specs.declared.Place.{Place}
 use Rattle.document.specs.declared.Profile.{Profile}
 use Rattle.document.specs.Places.{partnerOf, Within}
 use Rattle.document.specs.Profile.{Accepted}
-use Rattle.document.specs.Bytes.{bytes, number}
+use Rattle.document.specs.ByteField.{bytes, number}
 use Rattle.document.specs.Encoding.{factorAt}
 use Rattle.document.proofs.Bounds.{room, square-bound, data-bound, partner-within}
 use Rattle.document.proofs.Reading.{joined-within}

@@ -9,7 +9,7 @@ use lib.ListN.{length, getD, take, drop}
 use Rattle.strips.specs.Strips.{stripAt, addedScaled}
 use Rattle.strips.proofs.Strip.{strip-length, strip-part}
 use Rattle.document.specs.Encoding.{factorAt}
-use Rattle.document.specs.Bytes.{number}
+use Rattle.document.specs.ByteField.{number}
 use Rattle.document.specs.Plan.{isOffDiagonal, planned}
 use Rattle.document.specs.Rebuild.{givenAt}
 use Rattle.document.proofs.Price.{planned-price}

@@ -2,7 +2,7 @@
 use mathlib.Core.Path.{sym, ap, _∙_}
 use borrow.Author.Needs.{needs}
 use Rattle.gf256.specs.Field.{inverse}
-use Rattle.document.proofs.Bytes.{number-inv}
+use Rattle.document.proofs.ByteField.{number-inv}
 use Rattle.rebuild.proofs.own_scale.Statement.{statement}
 use Rattle.rebuild.proofs.own_scale.Tie as tie
 

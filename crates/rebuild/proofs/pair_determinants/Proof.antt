@@ -7,7 +7,7 @@ use lib.ListN.{length, getD}
 use Rattle.lists.specs.Listed.{listed}
 use Rattle.lists.proofs.Written.{Written, written-none, written-all, written-more}
 use Rattle.algebra.specs.Coupling.{pair}
-use Rattle.document.specs.Bytes.{bytes, number}
+use Rattle.document.specs.ByteField.{bytes, number}
 use Rattle.document.specs.Encoding.{factorAt}
 use Rattle.rebuild.specs.Rows.{determinantAt, determinantsOf}
 use Rattle.rebuild.proofs.pair_determinants.Statement.{statement}

@@ -1,7 +1,7 @@
 -- `Profile::constant` meets its contract: t is a byte.
 use mathlib.Core.Path.{sym}
 use native.Mathlib.Omega.{arith}
-use Rattle.document.proofs.Bytes.{number-byte}
+use Rattle.document.proofs.ByteField.{number-byte}
 use Rattle.document.specs.Encoding.{constantOf}
 use Rattle.document.proofs.Profile.constant.Statement.{statement}
 use Rattle.document.proofs.Profile.constant.Tie as tie

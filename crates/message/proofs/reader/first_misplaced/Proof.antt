@@ -5,7 +5,7 @@ use native.Mathlib.Omega.{arith}
 use borrow.Author.Needs.{needs}
 use borrow.Author.Tests.{not-true, not-false}
 use Rattle.document.specs.Message.{placed}
-use Rattle.message.specs.Bytes.{placesFrom}
+use Rattle.message.specs.PlaceBytes.{placesFrom}
 use Rattle.message.specs.Reader.{placedIn}
 use Rattle.message.proofs.Fit.{field-bounded, field-room}
 use Rattle.message.proofs.Found.{Below, below-none, below-next, found, not-found}

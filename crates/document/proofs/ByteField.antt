@@ -7,8 +7,8 @@ use native.Mathlib.Decide.{Fin·val-path}
 use native.Mathlib.Omega.{arith}
 use Rattle.gf256.specs.Field.{_⊕_, _⊗_, inverse}
 use Rattle.gf256.proofs.Ring.{low-left, low-right}
-use Rattle.algebra.specs.Polynomial.{Distinct}
-use Rattle.document.specs.Bytes.{bytes, Byte, byte, number}
+use Rattle.algebra.specs.Polynomial.{DistinctPoints}
+use Rattle.document.specs.ByteField.{bytes, Byte, byte, number}
 
 pub number-lt : (a : Byte) → number a < 256
 unfolding bytes number
@@ -81,5 +81,5 @@ pub byte-ne : (a : ℕ) → a < 256 → a ≢ 0 → byte a ≢ bytes .𝟘
 byte-ne a h n e = n (byte-one-one a 0 h (omega arith) (e ∙ sym byte-zero))
 
 -- different numbers below 256 are different bytes
-pub points-distinct : (n : ℕ) → n ≤ 256 → Distinct bytes n byte
+pub points-distinct : (n : ℕ) → n ≤ 256 → DistinctPoints bytes n byte
 points-distinct n h i j l b e = omega (arith, byte-one-one i j (omega arith) (omega arith) e)
