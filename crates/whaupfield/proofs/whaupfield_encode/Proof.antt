@@ -1,13 +1,13 @@
--- `exports::whaupfield_encode` meets its contract: the answer of encoding, packed.
+-- `whaupfield::whaupfield_encode` meets its contract: the answer of encoding, packed.
 use mathlib.Core.Path.{ap, _∙_}
 use Prim.Native.Nat.{ℕ}
 use native.Mathlib.Omega.{arith}
 use borrow.Author.Needs.{needs}
 use Rattle.document.proofs.Values.{encode-value}
-use Rattle.exports.specs.Packed.{packedWith}
-use Rattle.exports.proofs.Values.{packable}
-use Rattle.exports.proofs.whaupfield_encode.Statement.{statement}
-use Rattle.exports.proofs.whaupfield_encode.Tie as tie
+use Rattle.whaupfield.specs.Packed.{packedWith}
+use Rattle.whaupfield.proofs.Values.{packable}
+use Rattle.whaupfield.proofs.whaupfield_encode.Statement.{statement}
+use Rattle.whaupfield.proofs.whaupfield_encode.Tie as tie
 
 pack-requires : tie.Need-pack-requires
 pack-requires c κs =

@@ -1,14 +1,14 @@
--- `exports::whaupfield_rebuild` meets its contract: the answer of a rebuild, packed.
+-- `whaupfield::whaupfield_rebuild` meets its contract: the answer of a rebuild, packed.
 use mathlib.Core.Path.{ap, _∙_}
 use Prim.Native.Nat.{ℕ}
 use native.Mathlib.Omega.{arith}
 use borrow.Author.Needs.{needs}
 use native.Mathlib.Nat.{le-of-suc-le-suc}
 use Rattle.document.proofs.Values.{rebuild-value}
-use Rattle.exports.specs.Packed.{packedWith}
-use Rattle.exports.proofs.Values.{packable}
-use Rattle.exports.proofs.whaupfield_rebuild.Statement.{statement}
-use Rattle.exports.proofs.whaupfield_rebuild.Tie as tie
+use Rattle.whaupfield.specs.Packed.{packedWith}
+use Rattle.whaupfield.proofs.Values.{packable}
+use Rattle.whaupfield.proofs.whaupfield_rebuild.Statement.{statement}
+use Rattle.whaupfield.proofs.whaupfield_rebuild.Tie as tie
 
 pack-requires : tie.Need-pack-requires
 pack-requires c κs =

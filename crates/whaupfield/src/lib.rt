@@ -10,7 +10,7 @@ ghost use Rattle.document.specs.Bundle.{writeOf};
 ghost use Rattle.document.specs.Rebuild.{rebuildOf};
 ghost use Rattle.document.specs.Reading.{readOf};
 ghost use Rattle.document.specs.Survey.{surveyOf, failingPosition, lookedIn};
-ghost use Rattle.exports.specs.Packed.{packed, packedWith, outcomePacked, packedSurvey, packedSurveyWith};
+ghost use Rattle.whaupfield.specs.Packed.{packed, packedWith, outcomePacked, packedSurvey, packedSurveyWith};
 use document::Answer;
 use document::Numbers;
 use document::Recording;

@@ -1,13 +1,13 @@
--- `exports::whaupfield_survey` meets its contract: the answer of a survey, packed.
+-- `whaupfield::whaupfield_survey` meets its contract: the answer of a survey, packed.
 use mathlib.Core.Path.{ap, _∙_}
 use mathlib.Core.List.{List}
 use Prim.Native.Nat.{ℕ}
 use borrow.Author.Needs.{needs}
 use Rattle.document.specs.declared.Surveyed.{Surveyed}
-use Rattle.exports.specs.Packed.{packedSurveyWith}
-use Rattle.exports.proofs.Values.{survey-fits}
-use Rattle.exports.proofs.whaupfield_survey.Statement.{statement}
-use Rattle.exports.proofs.whaupfield_survey.Tie as tie
+use Rattle.whaupfield.specs.Packed.{packedSurveyWith}
+use Rattle.whaupfield.proofs.Values.{survey-fits}
+use Rattle.whaupfield.proofs.whaupfield_survey.Statement.{statement}
+use Rattle.whaupfield.proofs.whaupfield_survey.Tie as tie
 
 pack-survey-requires : tie.Need-pack-survey-requires
 pack-survey-requires c κs =

@@ -1,14 +1,14 @@
--- `exports::whaupfield_write_bundle` meets its contract: the answer of writing a bundle, packed.
+-- `whaupfield::whaupfield_write_bundle` meets its contract: the answer of writing a bundle, packed.
 use mathlib.Core.Path.{ap, _∙_}
 use Prim.Native.Nat.{ℕ}
 use native.Mathlib.Omega.{arith}
 use borrow.Author.Needs.{needs}
 use Rattle.document.specs.Bundle.{longestBundle}
 use Rattle.document.proofs.Values.{write-value}
-use Rattle.exports.specs.Packed.{packedWith}
-use Rattle.exports.proofs.Values.{packable}
-use Rattle.exports.proofs.whaupfield_write_bundle.Statement.{statement}
-use Rattle.exports.proofs.whaupfield_write_bundle.Tie as tie
+use Rattle.whaupfield.specs.Packed.{packedWith}
+use Rattle.whaupfield.proofs.Values.{packable}
+use Rattle.whaupfield.proofs.whaupfield_write_bundle.Statement.{statement}
+use Rattle.whaupfield.proofs.whaupfield_write_bundle.Tie as tie
 
 pack-requires : tie.Need-pack-requires
 pack-requires c κs =

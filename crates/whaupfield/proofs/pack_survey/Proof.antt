@@ -1,13 +1,13 @@
--- `exports::pack_survey` meets its contract, outcome by outcome.
+-- `whaupfield::pack_survey` meets its contract, outcome by outcome.
 use mathlib.Core.Path.{sym, ap, _∙_}
 use native.Mathlib.Nat.{add-zero, zero-add}
 use native.Mathlib.Omega.{arith}
 use borrow.Author.Needs.{needs}
 use Rattle.document.specs.Refusals.{answerNumber}
 use Rattle.document.specs.Survey.{surveyAnswer, outcomeNumber, failingPosition, lookedIn}
-use Rattle.exports.specs.Packed.{packedSurvey}
-use Rattle.exports.proofs.pack_survey.Statement.{statement}
-use Rattle.exports.proofs.pack_survey.Tie as tie
+use Rattle.whaupfield.specs.Packed.{packedSurvey}
+use Rattle.whaupfield.proofs.pack_survey.Statement.{statement}
+use Rattle.whaupfield.proofs.pack_survey.Tie as tie
 
 pack-outcome-requires : tie.Need-pack-outcome-requires
 unfolding failingPosition lookedIn

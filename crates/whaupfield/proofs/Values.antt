@@ -6,7 +6,7 @@ use Rattle.document.specs.declared.Answer.{Answer}
 use Rattle.document.specs.Refusals.{answerValue}
 use Rattle.document.specs.Bundle.{longestBundle}
 use Rattle.document.proofs.Values.{survey-counted}
-use Rattle.exports.specs.Packed.{SurveyFits}
+use Rattle.whaupfield.specs.Packed.{SurveyFits}
 
 -- the answer of a call, from what its contract says: no value is greater than the length of a bundle
 pub packable : {X : Type 0} (answer : Answer) (x : X) (o : Answer × X) → (answer, x) ≡ o

@@ -1,14 +1,14 @@
--- `exports::whaupfield_plan` meets its contract: the answer of planning, packed.
+-- `whaupfield::whaupfield_plan` meets its contract: the answer of planning, packed.
 use mathlib.Core.Path.{ap, _∙_}
 use Prim.Native.Nat.{ℕ}
 use native.Mathlib.Omega.{arith}
 use borrow.Author.Needs.{needs}
 use Rattle.document.specs.Plan.{maxPlaces}
 use Rattle.document.proofs.Values.{plan-value}
-use Rattle.exports.specs.Packed.{packedWith}
-use Rattle.exports.proofs.Values.{packable}
-use Rattle.exports.proofs.whaupfield_plan.Statement.{statement}
-use Rattle.exports.proofs.whaupfield_plan.Tie as tie
+use Rattle.whaupfield.specs.Packed.{packedWith}
+use Rattle.whaupfield.proofs.Values.{packable}
+use Rattle.whaupfield.proofs.whaupfield_plan.Statement.{statement}
+use Rattle.whaupfield.proofs.whaupfield_plan.Tie as tie
 
 pack-requires : tie.Need-pack-requires
 pack-requires c κs =

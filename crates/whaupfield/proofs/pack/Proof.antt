@@ -1,13 +1,13 @@
--- `exports::pack` meets its contract: a value below 2^55 leaves room for the number below it.
+-- `whaupfield::pack` meets its contract: a value below 2^55 leaves room for the number below it.
 use mathlib.Core.Path.{sym, ap, ap₂, _∙_}
 use Prim.Native.Nat.{ℕ, _+_, _*_, _^_, _<_}
 use native.Mathlib.Nat.{zero-add}
 use native.Mathlib.Omega.{arith}
 use borrow.Author.Needs.{needs}
 use Rattle.document.specs.Refusals.{answerNumber, answerValue, indexOf}
-use Rattle.exports.specs.Packed.{packed}
-use Rattle.exports.proofs.pack.Statement.{statement}
-use Rattle.exports.proofs.pack.Tie as tie
+use Rattle.whaupfield.specs.Packed.{packed}
+use Rattle.whaupfield.proofs.pack.Statement.{statement}
+use Rattle.whaupfield.proofs.pack.Tie as tie
 
 done-value : (c : tie.After-answer) → c .answer .given .0 .0 < 2 ^ 55
 unfolding answerValue
