@@ -17,6 +17,7 @@ use Rattle.document.specs.declared.Answer.{Answer}
 use Rattle.document.specs.declared.Answer.the-variants.{Done}
 use Rattle.document.specs.Refusals.{numberOf, indexOf, answerNumber, answerValue}
 use Rattle.document.specs.Profile.{Accepted, profileOf}
+use Rattle.document.specs.Encoding.{columnIn}
 use Rattle.document.specs.Plan.{walkOf, planned}
 use Rattle.document.specs.Message.{recordingBytes, stripFieldLength, stripIn, stripFieldStart}
 use Rattle.document.specs.Bundle.{lostContent, lostContentLength, bundleTests, bundleStrip}
@@ -25,7 +26,7 @@ use Rattle.document.proofs.Decides.{decides-lt, decides-eq, decides-not, decide
 use Rattle.document.proofs.Bounds.{room}
 use Rattle.document.proofs.Walks.{Sound, walk-sound}
 use Rattle.demands.specs.Tables.{Decided, line}
-use Rattle.demands.specs.Strips.{EncodedArray, HasStrips, columnIn}
+use Rattle.demands.specs.Strips.{EncodedArray, HasStrips}
 use Rattle.demands.specs.Bundle.{bundleSentences}
 use Rattle.demands.specs.Rebuild.{
   rebuildSentences,

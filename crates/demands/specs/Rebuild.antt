@@ -36,12 +36,13 @@ use Rattle.document.specs.declared.Recording.{Recording}
 use Rattle.document.specs.declared.Refusal.the-variants.{OutOfRange, BufferLength}
 use Rattle.document.specs.Refusals.{answerNumber, answerValue}
 use Rattle.document.specs.Profile.{profileOf}
+use Rattle.document.specs.Encoding.{columnIn}
 use Rattle.document.specs.Plan.{planned}
 use Rattle.document.specs.Bundle.{bundleOf, bundleStrip}
 use Rattle.document.specs.Rebuild.{rebuildTests, rebuildOf}
 use Rattle.demands.specs.Tables.{Sentence}
 use Rattle.demands.specs.Profile.{Demand1For}
-use Rattle.demands.specs.Strips.{EncodedArray, HasStrips, AlikeAt, columnIn}
+use Rattle.demands.specs.Strips.{EncodedArray, HasStrips, AlikeAt}
 use Rattle.demands.specs.Bundle.{bundleSentences, CutFrom}
 
 -- 5: a column has AS bytes; 'other than the bundle to read'.
