@@ -5,7 +5,8 @@
 -- FirstOf table r : `search in-order` shows it, where what r says is at hand and what refutes the lines before it
 -- Only Q table    : the lines that hold are of refusals as Q says. `search line-by-line` goes over them, where what is
 --                   needed of each is at hand
--- NoneHolds table : no line holds. `search line-by-line` shows this too. It is the demand's NoneApplies, as `Only` says it
+-- NoneHolds table : no line holds, as `Only` says it. `search line-by-line` shows this too; none-holds and none-applies
+--                   lead from and to NoneApplies, as the demands say it
 -- first-or-none   : some refusal is the first of a table that tests decide, or no line holds
 use mathlib.Core.Path.{_≡_, refl, ap}
 use mathlib.Core.Logic.{_⊎_, inl, inr}

@@ -2,10 +2,10 @@
 -- whose array has those columns. A request in due form is refused exactly when some two different data sets give equal
 -- columns on those drives.'
 --
+-- TwoData p nodes           : some two different data give equal columns on the named nodes
 -- readSentences p nodes x y : the lines for reading the columns x of the named nodes back into y, past those of a
 --                             profile
 -- Demand1Read p nodes x y   : reading back refuses as they say                                      demand-1-read
--- TwoData p nodes           : some two different data give equal columns on the named nodes
 -- InDueForm p nodes x y     : the request is in due form: profile, list and lengths
 -- OnlyData p nodes x d      : d are data whose array has the columns x on the named nodes, and no other data have them
 -- ReadsOnlyData p nodes x y : what demand 2 says of one call, for the columns x and the buffer y

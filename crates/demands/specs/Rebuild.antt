@@ -21,8 +21,8 @@
 -- Shown in proofs/Rebuild.antt, under the name beside each.
 --
 -- In all of them p are the wanted numbers, f is the wanted node, r the wanted recording, b a bundle, y what the buffer
--- lent for the column holds, x a stored array. What a bundle was cut for is written out: numbers, node, recording. Of two
--- rebuilds these have the indices 1 and 2.
+-- lent for the column holds, x a stored array. What else a bundle may be cut for is written out: numbers, node,
+-- recording. Where there are two of a kind they are numbered 1 and 2.
 --
 -- planned p f are the planned places, bundleStrip p b i is the strip i of the bundle b: document/specs/Plan.antt and
 -- Bundle.antt.
@@ -65,13 +65,13 @@ Demand1Rebuild p f r b y =
     Demand1For p (λ p. rebuildTests p lost r b y) (λ p. rebuildSentences p lost r b y)
     ((4, 0) ∷ (5, 0) ∷ (6, 0) ∷ (7, 0) ∷ (listed P (λ i. (8, i)) ++ listed P (λ i. (9, i)))) y (rebuildOf p f r b y)
 
--- 'scenario number in four bytes': the calls take no other, by its type.
-abbrev pub InFourBytes : Recording → Type 0
-InFourBytes r = r .scenario < 4294967296
-
 -- 'The rebuilt column is the AS bytes that a rebuild not refused leaves in the buffer lent for writing.'
 abbrev pub NotRefused : Numbers → ℕ → Recording → List ℕ → List ℕ → Type 0
 NotRefused p f r b y = answerNumber (rebuildOf p f r b y .0) ≡ 0
+
+-- 'scenario number in four bytes': a call takes no other, by its type.
+abbrev pub InFourBytes : Recording → Type 0
+InFourBytes r = r .scenario < 4294967296
 
 module _ (p : Numbers) (f : ℕ) where
   -- the wanted profile, and the planned places
@@ -142,8 +142,8 @@ module _ (p : Numbers) (f : ℕ) where
       (x : List ℕ) (recording r : Recording) (b y : List ℕ) → CutFrom p f x recording b → EncodedArray wanted x
       → NotRefused p f r b y → rebuildOf p f r b y .1 ≡ columnIn wanted x f
 
-  -- A bundle cut for any numbers, node and recording, and not refused: they are the wanted ones. For the recording,
-  -- where both are numbers that four bytes hold.
+  -- A bundle cut for any numbers, node and recording, and not refused: they are the wanted ones. Refusal 7 sees to it:
+  -- fields 01 and 02 have them.
   abbrev pub CutForWanted : Type 0
   CutForWanted =
       (numbers : Numbers) (node : ℕ) (x : List ℕ) (recording r : Recording) (b y : List ℕ)

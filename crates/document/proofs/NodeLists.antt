@@ -32,7 +32,7 @@ decides-list-accepted n (suc k) b (x ∷ xs) =
     (decides-both _ _ (decides-le b x) (decides-both _ _ (decides-lt x n) (decides-list-accepted n k (suc x) xs)))
     (λ h. next (h .0) (h .1 .0) (h .1 .1)) rising-parts
 
--- For k named nodes of an accepted profile the test of refusal 10 is its sentence.
+-- For k named nodes of an accepted profile the test of refusal 10 decides its sentence, of encoded arrays.
 pub decides-ambiguous : (p : Profile) → Accepted p → (nodes : List ℕ) → Rising (p .n) (p .k) nodes
     → Decides (ambiguous p nodes) (TwoEncoded p nodes)
 decides-ambiguous p acc nodes rises = (ambiguous-two p acc nodes rises, two-ambiguous p acc nodes rises)

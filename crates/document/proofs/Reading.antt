@@ -20,7 +20,6 @@ use Rattle.algebra.proofs.Square.{dot-ext, dot-zeros}
 use Rattle.square.specs.declared.Line.{Line}
 use Rattle.square.specs.Steps.{noLine, lineAt, entry}
 use Rattle.document.specs.declared.Profile.{Profile}
-use Rattle.document.specs.declared.Place.{Place}
 use Rattle.document.specs.Profile.{Accepted}
 use Rattle.document.specs.Places.{place, Within}
 use Rattle.document.specs.ByteField.{bytes, Byte, byte, number}
@@ -76,7 +75,7 @@ module _ (p : Profile) where
       at b j i l u v =
           rw (digits-mod i u, digits-div i u) at (h b (i * k + j) l (omega (arith, digits-lt v u, mul-comm k A)))
 
-  -- 'some two different data give equal columns on these nodes', of the arrays that encoding gives
+  -- 'some two different data give equal columns on these nodes', of encoded arrays
   pub record TwoEncoded (nodes : List ℕ) : Type 0 where
     pub first : List ℕ
     pub second : List ℕ

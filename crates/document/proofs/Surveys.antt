@@ -11,7 +11,7 @@ use Rattle.ksets.specs.Sets.{sets, setAt}
 use Rattle.document.specs.declared.Profile.{Profile}
 use Rattle.document.specs.declared.Surveyed.{Surveyed}
 use Rattle.document.specs.declared.Surveyed.the-variants.{Failing, Done, Open}
-use Rattle.document.specs.Survey.{firstIn, failsAt, lookedAt, foundFrom, resultOf}
+use Rattle.document.specs.Survey.{firstIn, lookedAt, foundFrom, resultOf}
 
 module _ (P : ℕ → Bool) where
   -- f is the first of the c positions from `at` on for which P holds; the one after them if there is none.

@@ -66,7 +66,7 @@ module _ (p : Profile) where
   unfoldable pub stripOf : List ℕ → Place → List ℕ
   stripOf x q = slice x (start q) S
 
-  -- 'a node's column is its A strips, row 0 first'
+  -- 'a node's column is its A strips, row 0 first': from (jA)S on, in one piece.
   abbrev pub columnIn : List ℕ → ℕ → List ℕ
   columnIn x j = slice x (j * A * S) (A * S)
 

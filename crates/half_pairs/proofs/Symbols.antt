@@ -263,8 +263,8 @@ module _ (p : Profile) (nodes : List ℕ) where
           ∙ sym (joined-byte p (encoded-stored p _) rises z b h l));
     }
       where
-        blank : Blank bytes (coupled-code p acc) (named nodes) (positionIn nodes) choice positions U (halfPairAt p nodes)
-            selected
+        blank : Blank bytes (coupled-code p acc) (named nodes) (positionIn nodes) choice positions U
+            (halfPairAt p nodes) selected
         blank =
             blank-array bytes (coupled-code p acc) (named nodes) (positionIn nodes) choice positions U
             (halfPairAt p nodes) selected null
