@@ -1,4 +1,5 @@
--- What a message fixes that is as wanted: its field 01, the profile; with its strips, all its bytes.
+-- What a message fixes that is as wanted: its field 01, the profile; its scenario number, the recording; with its
+-- strips, all its bytes.
 use mathlib.Core.Path.{_≡_, sym, ap, ap₂, _∙_}
 use mathlib.Core.List.{List, _∷_}
 use Prim.Native.Nat.{ℕ, zero, suc, _+_, _*_, _-_, _/_, _%_, _≤_, _<_}
@@ -10,7 +11,7 @@ use lib.Seq.{ext-getD}
 use Rattle.lists.specs.Put.{slice}
 use Rattle.lists.specs.Each.{Each}
 use Rattle.lists.proofs.Slice.{slice-at}
-use Rattle.fields.specs.Fields.{twoBytes, opening, openingLength}
+use Rattle.fields.specs.Fields.{twoBytes, fourBytes, opening, openingLength}
 use Rattle.document.specs.declared.Numbers.{Numbers}
 use Rattle.document.specs.declared.Profile.{Profile}
 use Rattle.document.specs.declared.Place.{Place}
@@ -42,6 +43,7 @@ use Rattle.document.proofs.Message.{
   written-strip,
 }
 use Rattle.demands.specs.Message.{Headed}
+use Rattle.demands.specs.Rebuild.{InFourBytes}
 use Rattle.demands.proofs.Message.{length-is, opening-is, AsWanted}
 
 -- ---- the profile
@@ -77,6 +79,28 @@ pub head-fixes : (p q : Numbers) {m w : ℕ} {c d b : List ℕ} → p .s ≤ 512
     → Headed (profileOf q) w d b → p ≡ q
 unfolding contentOf
 head-fixes p q small short H K = same-numbers p q small short (sym (H .field-01) ∙ K .field-01)
+
+-- ---- the recording
+-- the number in four bytes
+fromFour : List ℕ → ℕ
+fromFour v = getD v 0 0 * 16777216 + getD v 1 0 * 65536 + getD v 2 0 * 256 + getD v 3 0
+
+from-four : (a : ℕ) → a < 4294967296 → fromFour (fourBytes a) ≡ a
+unfolding fromFour fourBytes
+from-four a l =
+    let third : a / 65536 * 256 + a / 256 % 256 ≡ a / 256 = omega arith in
+    let second : a / 16777216 * 256 + a / 65536 % 256 ≡ a / 65536 = omega arith in
+    let first : a / 16777216 % 256 ≡ a / 16777216 = omega arith in
+    rw first (omega arith)
+
+-- recordings with the same number in four bytes
+pub same-recording : (r₁ r₂ : Recording) → InFourBytes r₁ → InFourBytes r₂
+    → fourBytes (r₁ .scenario) ≡ fourBytes (r₂ .scenario) → r₁ ≡ r₂
+same-recording r₁ r₂ l m e =
+    ap made (sym (from-four (r₁ .scenario) l) ∙ ap fromFour e ∙ from-four (r₂ .scenario) m)
+  where
+    made : ℕ → Recording
+    made v = record { scenario = v }
 
 -- ---- lists alike at the indices of a range
 module _ (x y : List ℕ) where

@@ -20,6 +20,7 @@ pub mod Factors
 pub mod SquareSteps
 pub mod Squares
 pub mod Coefficients
+pub mod Joined
 pub mod Reading
 pub mod NodeLists
 pub mod Surveys
