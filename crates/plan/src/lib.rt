@@ -132,11 +132,8 @@ pub fn price(p: Profile) -> usize
     ensures { λ r. ⌜ r ≡ priceOf (p .n) (p .k) (p .a) ⌝ }
 {
     let others = p.n / p.a - 1;
-    let singles = p.a - 1 + p.k;
-    if p.k <= others {
-        return singles;
-    }
-    singles + (p.k - others)
+    let singles = lists::least(p.k, others);
+    p.a - 1 + p.k + (p.k - singles)
 }
 
 // Plans with an accepted profile.

@@ -1,7 +1,7 @@
 // The small program of document 01 as a function: from the bytes of standard input to those of standard output.
 ghost use mathlib.Core.Path.{_≡_};
 ghost use mathlib.Core.List.{_++_};
-ghost use Prim.Native.Nat.{_+_, _<_, _≤_, min};
+ghost use Prim.Native.Nat.{_+_, _<_, _≤_};
 ghost use lib.ListN.{length, drop};
 ghost use Rattle.lists.specs.Put.{Wrote};
 ghost use Rattle.document.specs.Refusals.{indexOf};
@@ -75,16 +75,6 @@ fn recording(input: &[u8]) -> Recording
     }
 }
 
-// The smaller of two numbers.
-fn least(a: usize, b: usize) -> usize
-    ensures { λ r. ⌜ r ≡ min a b ⌝ }
-{
-    if a < b {
-        return a;
-    }
-    b
-}
-
 // Writes a number in decimal digits.
 fn put_decimal(out: &mut [u8], at: usize, v: usize) -> usize
     requires { ⌜ (at + 2 ≤ length (now out)) × (v < 100) ⌝ }
@@ -125,7 +115,7 @@ fn rebuild_input(input: &[u8], p: Numbers, column: &mut [u8]) -> Answer
 {
     let lost = byte_in(input, 6) as usize;
     let r = recording(input);
-    let head = least(input.len(), WANTED);
+    let head = lists::least(input.len(), WANTED);
     rebuild::rebuild(p, lost, r, &input[head..], column)
 }
 
@@ -135,7 +125,7 @@ fn put_answer(out: &mut [u8], input: &[u8]) -> usize
     ensures { λ r. ⌜ Answered (now (input .entry)) r (now (out .exit)) ⌝ }
 {
     let p = numbers(input);
-    let room = least(p.a * p.s, COLUMN);
+    let room = lists::least(p.a * p.s, COLUMN);
     let outcome = rebuild_input(input, p, &mut out[..room]);
     match outcome {
         Answer::Done(_) => room,
