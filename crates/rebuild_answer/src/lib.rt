@@ -2,14 +2,13 @@
 ghost use mathlib.Core.Path.{_≡_};
 ghost use mathlib.Core.List.{_++_};
 ghost use Prim.Native.Nat.{_+_, _<_, _≤_};
-ghost use lib.ListN.{length, drop};
+ghost use lib.ListN.{length, drop, replicate};
 ghost use Rattle.lists.specs.Put.{Wrote};
 ghost use Rattle.document.specs.Refusals.{indexOf};
 ghost use Rattle.document.specs.Rebuild.{rebuildOf};
 ghost use Rattle.document.specs.Program.{byteIn, programHead, wantedNumbers, wantedNode, wantedRecording};
-ghost use Rattle.document.specs.Program.{decimal, lineOf};
+ghost use Rattle.document.specs.Program.{decimal, lineOf, programOf};
 ghost use Rattle.rebuild_answer.specs.Room.{longestInput};
-ghost use Rattle.rebuild_answer.specs.Answered.{Answered};
 use document::Answer;
 use document::Numbers;
 use document::Profile;
@@ -28,7 +27,7 @@ pub const COLUMN: usize = Profile::MAX_ROWS * Profile::MAX_STRIP;
 
 // A buffer for the input.
 pub fn input_buffer() -> [u8; ROOM]
-    ensures { λ r. ⌜ longestInput + 1 ≡ length r ⌝ }
+    ensures { λ r. ⌜ r ≡ replicate (longestInput + 1) 0 ⌝ }
 {
     [0; ROOM]
 }
@@ -122,7 +121,7 @@ fn rebuild_input(input: &[u8], p: Numbers, column: &mut [u8]) -> Answer
 // Writes what the program answers to this input, and returns the number of its bytes.
 fn put_answer(out: &mut [u8], input: &[u8]) -> usize
     requires { ⌜ 2048 ≤ length (now out) ⌝ }
-    ensures { λ r. ⌜ Answered (now (input .entry)) r (now (out .exit)) ⌝ }
+    ensures { λ r. ⌜ Wrote (now (out .entry)) 0 (programOf (now (input .entry))) r (now (out .exit)) ⌝ }
 {
     let p = numbers(input);
     let room = lists::least(p.a * p.s, COLUMN);
@@ -133,9 +132,10 @@ fn put_answer(out: &mut [u8], input: &[u8]) -> usize
     }
 }
 
-// What the program writes to standard output for this standard input: so many bytes at the start of `output`.
+// What the program writes to standard output for this standard input: so many bytes at the start of `output`. The bytes
+// past them stay.
 pub fn answer(input: &[u8], output: &mut [u8; COLUMN]) -> usize
-    ensures { λ r. ⌜ Answered (now (input .entry)) r (now (output .exit)) ⌝ }
+    ensures { λ r. ⌜ Wrote (now (output .entry)) 0 (programOf (now (input .entry))) r (now (output .exit)) ⌝ }
 {
     put_answer(output, input)
 }
