@@ -36,7 +36,8 @@ later-price : (k d : ℕ) (w : Walk) → length (w .diagonal) ≡ d → k - d �
 later-price k d w diagonal enough =
     rw (length-take _ (w .diagonal), length-take _ (w .off-diagonal), diagonal) (omega (arith, enough))
 
--- (24,20,4) has the longest plan: k is at most 24 - A and at most (G-1)A, which is at most 16 where G-1 + A is at most 8
+-- (24,20,4) has the longest plan: k is at most 24 - A, and at most (G-1)A, which is at most 16 where G-1 + A is at
+-- most 8
 pub price-bound : (p : Profile) → Accepted p → priceOf (p .n) (p .k) (p .a) ≤ maxPlaces
 price-bound p acc = go (decLt (others + p .a) 9)
   where

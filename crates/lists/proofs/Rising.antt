@@ -28,7 +28,8 @@ rising-ext (suc n) P Q h =
 -- the numbers below j that pass come first among those below n
 front-all : (j n : ℕ) (P : ℕ → Bool) → n ≡ j → take (length (rising j P)) (rising n P) ≡ rising j P
 front-all j n P e =
-    ap (λ (m : ℕ). take (length (rising j P)) (rising m P)) e ∙ take-all (length (rising j P)) (rising j P) (omega arith)
+    ap (λ (m : ℕ). take (length (rising j P)) (rising m P)) e
+    ∙ take-all (length (rising j P)) (rising j P) (omega arith)
 
 front-next : (j n : ℕ) (P : ℕ → Bool) → j ≤ suc n
     → (j ≤ n → take (length (rising j P)) (rising n P) ≡ rising j P) → Dec (j < suc n)

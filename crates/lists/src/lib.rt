@@ -1,5 +1,5 @@
-// Lists of bytes: written into a buffer, compared, searched; and the smaller of two numbers. All else here is about lists
-// alone: definitions in specs/, their laws in proofs/.
+// Lists of bytes: written into a buffer, compared, searched; and the smaller of two numbers. All else here is about
+// lists alone: definitions in specs/, their laws in proofs/.
 ghost use mathlib.Core.Path.{_≡_};
 ghost use mathlib.Core.Bool.{cond};
 ghost use mathlib.Core.List.{[], _∷_};

@@ -66,10 +66,11 @@ module _ (n : ℕ) (P : ℕ → Bool) {d e : List ℕ} {j at next end : ℕ} whe
 
   pub list-full : j ≤ n → next ≡ end → Wrote d at (rising j P) next e → rising j P ≡ take (end - at) (rising n P)
   list-full h full w =
-      let m : length (rising j P) ≡ end - at = omega (arith, w .ends) in
-      sym (rising-front j n P h) ∙ ap (λ (m : ℕ). take m (rising n P)) m
+      let size : length (rising j P) ≡ end - at = omega (arith, w .ends) in
+      sym (rising-front j n P h) ∙ ap (λ (m : ℕ). take m (rising n P)) size
 
-pub step-ends : {d e : List ℕ} {at r : ℕ} (end : ℕ) (xs : List ℕ) → at ≤ end → Wrote d at (take (end - at) xs) r e → r ≤ end
+pub step-ends : {d e : List ℕ} {at r : ℕ} (end : ℕ) (xs : List ℕ) → at ≤ end → Wrote d at (take (end - at) xs) r e
+    → r ≤ end
 step-ends {at = at} end xs h w = omega (arith, w .ends, length-take (end - at) xs)
 
 module _ (p : Profile) (acc : Accepted p) (f : Node) (h : f .0 < p .n) where

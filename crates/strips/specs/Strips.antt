@@ -10,7 +10,7 @@
 -- addedStrip at src x                    : x with the bytes of src added from `at` on
 -- doubledStrip x                         : twice each byte of x
 -- doubledWhile m y x                     : x doubled once for each halving of y until y is 0, at most m times
--- usedUp c x                             : what is left of a strip x of which c times was added
+-- usedUp c x                             : what `add_multiple` leaves of the strip x, with the factor c
 use mathlib.Core.Bool.{cond}
 use mathlib.Core.List.{List, [], _∷_}
 use Prim.Native.Nat.{ℕ, zero, suc, _+_, _*_, _/_, _≤_, _<_}
@@ -54,6 +54,7 @@ unfoldable pub doubledWhile : ℕ → ℕ → List ℕ → List ℕ
 doubledWhile zero y x = x
 doubledWhile (suc m) y x = cond (ltb 0 y) (doubledWhile m (y / 2) (doubledStrip x)) x
 
--- A factor below 32 is taken bit by bit: a byte has eight, and for each past the lowest the strip is doubled in place.
+-- A factor below 32 is taken bit by bit, and a byte has eight: the strip is doubled for each bit past the lowest, up to
+-- the highest that is set. Another factor leaves the strip as it was.
 unfoldable pub usedUp : ℕ → List ℕ → List ℕ
 usedUp c x = cond (ltb c 32) (doubledWhile 8 (c / 2) x) x

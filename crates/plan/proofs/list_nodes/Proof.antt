@@ -11,7 +11,8 @@ use Rattle.plan.proofs.list_nodes.Tie as tie
 room : (c : tie.After-list-step) → c .list-step .result + c .before .before .before .before .args .p .k ≤ 24
 room c =
     let s = c .before .before .before .before in
-    let own : c .list-step .result ≤ s .args .p .a - 1 = step-ends (s .args .p .a - 1) _ zero-le (c .list-step .ensures) in
+    let most = s .args .p .a - 1 in
+    let own : c .list-step .result ≤ most = step-ends most _ zero-le (c .list-step .ensures) in
     omega (arith, s .pre .0 .shape)
 
 add-end : tie.Need-add-end

@@ -32,8 +32,10 @@ loop-holds c = (zero-le, c .before .pre .1, refl, wrote-none _ _)
 put-if-requires : tie.Need-put-if-requires Inv-loop μ-loop
 put-if-requires c κs =
     let l = c .before .before .before .before .loop in
-    let s = c .before .before .before .before .before .before in
-    (omega (arith, ltb-true (l .next) (s .args .end) (c .before .before .if1 .taken), s .pre .2, l .inv .2), omega (arith, s .pre .0 .shape .few-nodes))
+    let s = c .before .before .before .before .before .before in (
+      omega (arith, ltb-true (l .next) (s .args .end) (c .before .before .if1 .taken), s .pre .2, l .inv .2),
+      omega (arith, s .pre .0 .shape .few-nodes),
+    )
 
 loop-again : tie.Need-loop-again Inv-loop μ-loop
 loop-again c =
