@@ -9,8 +9,12 @@
 -- addedScaled c at src x                 : x with c times the bytes of src added from `at` on
 -- addedStrip at src x                    : x with the bytes of src added from `at` on
 -- doubledStrip x                         : twice each byte of x
+-- doubledWhile m y x                     : x doubled once for each halving of y until y is 0, at most m times
+-- usedUp c x                             : what `add_multiple` leaves of the strip x, with the factor c
+use mathlib.Core.Bool.{cond}
 use mathlib.Core.List.{List, [], _∷_}
-use Prim.Native.Nat.{ℕ, _+_, _*_, _≤_, _<_}
+use Prim.Native.Nat.{ℕ, zero, suc, _+_, _*_, _/_, _≤_, _<_}
+use lib.Dec.{ltb}
 use lib.ListN.{length, getD}
 use Rattle.lists.specs.Listed.{listed, patched}
 use Rattle.gf256.specs.Field.{_⊕_, _⊗_, double}
@@ -45,3 +49,12 @@ addedStrip at src x = addedBy (λ v. v) at src x
 
 unfoldable pub doubledStrip : List ℕ → List ℕ
 doubledStrip x = listed (length x) (λ b. double (getD x b 0))
+
+unfoldable pub doubledWhile : ℕ → ℕ → List ℕ → List ℕ
+doubledWhile zero y x = x
+doubledWhile (suc m) y x = cond (ltb 0 y) (doubledWhile m (y / 2) (doubledStrip x)) x
+
+-- A factor below 32 is taken bit by bit, and a byte has eight: the strip is doubled for each bit past the lowest, up to
+-- the highest that is set. Another factor leaves the strip as it was.
+unfoldable pub usedUp : ℕ → List ℕ → List ℕ
+usedUp c x = cond (ltb c 32) (doubledWhile 8 (c / 2) x) x

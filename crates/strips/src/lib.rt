@@ -6,7 +6,7 @@ ghost use Prim.Native.Nat.{ℕ, _+_, _*_, _%_, _^_, _<_, _≤_};
 ghost use lib.ListN.{length, take, drop, replicate};
 ghost use Rattle.lists.specs.Listed.{listed};
 ghost use Rattle.strips.specs.Strips.{combinationOf, SourcesFit, stripAt};
-ghost use Rattle.strips.specs.Strips.{addedScaled, addedStrip, doubledStrip};
+ghost use Rattle.strips.specs.Strips.{addedScaled, addedStrip, doubledStrip, usedUp};
 ghost use Rattle.strips.specs.Planes.{bitsAt, planeOf, offsetsOf, doubledIf, addedWith};
 ghost use Rattle.strips.specs.Planes.{partOf, addedFour, Alike, Lent};
 
@@ -72,7 +72,8 @@ fn add_bit(x: &mut [u8], at: usize, strip: &[u8], y: u8)
 // doubled in place; from 32 on that can take longer than a product for each byte.
 pub fn add_multiple(x: &mut [u8], at: usize, strip: &mut [u8], c: u8)
     requires { ⌜ at + length (now strip) ≤ length (now x) ⌝ }
-    ensures { λ _. ⌜ now (x .exit) ≡ addedScaled c at (now (strip .entry)) (now (x .entry)) ⌝ }
+    ensures { λ _. ⌜ (now (x .exit) ≡ addedScaled c at (now (strip .entry)) (now (x .entry)))
+        × (now (strip .exit) ≡ usedUp c (now (strip .entry))) ⌝ }
 {
     if c >= 32 {
         add_scaled(x, at, strip, c);

@@ -1,6 +1,6 @@
 // The survey of a profile: the sets of k nodes one after the other, each decided by elimination alone.
 ghost use mathlib.Core.Path.{_≡_};
-ghost use Prim.Native.Nat.{_+_, _≤_, _<_, min};
+ghost use Prim.Native.Nat.{_+_, _≤_, _<_};
 ghost use lib.ListN.{length};
 ghost use Rattle.ksets.specs.Sets.{sets, setAt, Rising};
 ghost use Rattle.document.specs.Profile.{Accepted};
@@ -70,20 +70,13 @@ fn first_failing(p: Profile, set: &mut [u8], start: usize, end: usize) -> usize
     look(p, set, start, end)
 }
 
-// The smaller of two numbers.
-fn least(a: usize, b: usize) -> usize
-    ensures { λ r. ⌜ r ≡ min a b ⌝ }
-{
-    if a <= b { a } else { b }
-}
-
 // A survey that is not refused.
 fn survey_from(p: Profile, start: usize, most: usize, total: usize, set: &mut [u8]) -> Surveyed
     requires { ⌜ Accepted p × (total ≡ sets (p .n) (p .k)) × (start ≤ total) × (length (now set) ≡ p .k) ⌝ }
     ensures { λ r. ⌜ (r, now (set .exit)) ≡ resultOf p start most (now (set .entry)) ⌝ }
 {
     let k = p.k;
-    let looked = least(most, total - start);
+    let looked = lists::least(most, total - start);
     let end = start + looked;
     let mut current = [0u8; 24];
     let found = first_failing(p, &mut current[..k], start, end);
