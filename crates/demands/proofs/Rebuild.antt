@@ -24,7 +24,7 @@ use Rattle.document.specs.Bundle.{lostContent, lostContentLength, bundleTests, 
 use Rattle.document.specs.Rebuild.{rebuiltOf, firstStrip, rebuildTests, rebuildWith, rebuildOf}
 use Rattle.document.proofs.Decides.{decides-lt, decides-eq, decides-not, decided}
 use Rattle.document.proofs.Bounds.{room}
-use Rattle.document.proofs.Walks.{Sound, walk-sound}
+use Rattle.document.proofs.Walks.{Sound, walk-sound, planned-over}
 use Rattle.demands.specs.Tables.{Decided, line}
 use Rattle.demands.specs.Strips.{EncodedArray, HasStrips}
 use Rattle.demands.specs.Bundle.{bundleSentences, CutFrom}
@@ -132,27 +132,31 @@ module _ (p : Numbers) (f : ℕ) (r : Recording) (b y : List ℕ) where
     column-done : (x : List ℕ) → EncodedArray profile x
         → HasStrips profile (planned profile lost) x (bundleStrip profile b)
         → rebuildOf p f r b y .1 ≡ columnIn profile x f
-    unfolding rebuiltOf planned
+    unfolding rebuiltOf
     column-done x E has =
         ap (λ o. o .1) (granted .is-done)
-        ∙ column-of profile acc lost below (walkOf profile lost) sound x E (bundleStrip profile b) has _
-        (bundle-gives profile acc lost below (walkOf profile lost) sound b)
+        ∙ rw planned-over
+        (column-of profile acc lost below (walkOf profile lost) sound x E (bundleStrip profile b)
+        (rw planned-over at has) _ (bundle-gives profile acc lost below (walkOf profile lost) sound b))
 
     -- and the same from another bundle with these strips
     column-same : (c : List ℕ) → ((i : ℕ) → i < P → bundleStrip profile b i ≡ bundleStrip profile c i)
         → rebuilt profile ≡ rebuiltOf profile lost c (firstStrip profile) (stripFieldLength (p .s))
-    unfolding rebuiltOf planned
+    unfolding rebuiltOf
     column-same c =
-        same-rebuilt profile acc lost below (walkOf profile lost) sound _ _ (bundleStrip profile b)
+        rw planned-over
+        (same-rebuilt profile acc lost below (walkOf profile lost) sound _ _ (bundleStrip profile b)
         (bundleStrip profile c)
         (bundle-gives profile acc lost below (walkOf profile lost) sound b)
-        (bundle-gives profile acc lost below (walkOf profile lost) sound c)
+        (bundle-gives profile acc lost below (walkOf profile lost) sound c))
 
     rebuilt-column : Bytes b → RebuiltColumn p f r b y
-    unfolding answerValue planned
+    unfolding answerValue
     rebuilt-column small = record {
       value = ap (λ o. answerValue (o .0)) (granted .is-done);
-      some = some-fits profile acc lost below (walkOf profile lost) sound (bundleStrip profile b) (strips-whole small);
+      some = rw planned-over
+          (some-fits profile acc lost below (walkOf profile lost) sound (bundleStrip profile b)
+          (rw planned-over at (strips-whole small)));
       column = column-done;
     }
 

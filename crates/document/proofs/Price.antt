@@ -22,7 +22,7 @@ use Rattle.document.specs.Plan.{
   maxPlaces,
 }
 use Rattle.document.proofs.Bounds.{rows-bound}
-use Rattle.document.proofs.Walks.{Sound, complete-sound, walk-complete, nodes-enough}
+use Rattle.document.proofs.Walks.{Sound, complete-sound, walk-complete, planned-over, nodes-enough}
 
 -- a node stands for two places in step 3
 pairs-length : (A : ℕ) (f : Node) (js : List ℕ) → length (pairsAt A f js) ≡ 2 * length js
@@ -70,8 +70,7 @@ module _ (p : Profile) (acc : Accepted p) (f : Node) (h : f .0 < p .n) where
       enough = omega (arith, sound .off-diagonal-length, mul-sub (G - 1) A 1, nodes-enough p acc)
 
   pub planned-price : length (planned p f) ≡ priceOf n k A
-  unfolding planned
-  planned-price = over-price (walkOf p f) (walk-complete p f)
+  planned-price = rw planned-over (over-price (walkOf p f) (walk-complete p f))
 
   pub few-places : length (planned p f) ≤ maxPlaces
   few-places = omega (arith, planned-price, price-bound p acc)

@@ -30,7 +30,7 @@ use Rattle.document.specs.Plan.{
   planOver,
   planned,
 }
-use Rattle.document.proofs.Walks.{Sound, walk-sound, nodes-enough}
+use Rattle.document.proofs.Walks.{Sound, walk-sound, planned-over, nodes-enough}
 use Rattle.plan.specs.Steps.{placesOf}
 use Rattle.plan.proofs.Places.{places-append, singles, pairs}
 
@@ -150,7 +150,8 @@ module _ (p : Profile) (acc : Accepted p) (f : Node) (h : f .0 < p .n) where
   off-places = pairs A f (each-take (k - length second) (each-map (λ j r. r .0) (sound .off-diagonal)))
 
   pub plan-places : placesOf A f planNodes ≡ planned p f
-  unfolding planned planOver
+  unfolding planOver
   plan-places =
       places-append A f own (second ++ third)
       ∙ ap₂ _++_ own-places (places-append A f second third ∙ ap₂ _++_ diagonal-places off-places)
+      ∙ sym (planned-over p f)

@@ -19,7 +19,7 @@ use document::Refusal;
 const WANTED: usize = 11;
 
 // As much of the input as is needed: one byte more than the head and the longest bundle. A longer input answers as its
-// first ROOM bytes do: `longer-input` of proofs/Longer.antt.
+// first ROOM bytes do: LongerInput of specs/Room.antt.
 pub const ROOM: usize = WANTED + bundle::LONGEST + 1;
 
 // The longest column.

@@ -1,5 +1,6 @@
 -- What is done to whole strips, as lists of bytes.
 --
+-- maxSources, maxLength                  : the most sources of a combination, and the longest strip
 -- sumOf ws src offset stride             : a byte: the sum of the weights ws times the bytes of src at offset,
 --                                          offset + stride, ..
 -- combinationOf ws src first stride len  : the strip of len such bytes, from sources at first, first + stride, ..
@@ -28,10 +29,18 @@ sumOf (w ∷ ws) src offset stride = (w ⊗ getD src offset 0) ⊕ sumOf ws src 
 unfoldable pub combinationOf : List ℕ → List ℕ → ℕ → ℕ → ℕ → List ℕ
 combinationOf ws src first stride len = listed len (λ b. sumOf ws src (first + b) stride)
 
--- At most 80 sources, strips of at most 2048 bytes (a column: 4 rows of 512), and every source inside.
+-- A coefficient square has 'at most 80 by 80 field elements', and a line of it weighs as many strips.
+abbrev pub maxSources : ℕ
+maxSources = 80
+
+-- A column is one strip to the row code: 4 rows of 512 bytes.
+abbrev pub maxLength : ℕ
+maxLength = 2048
+
+-- The sources are not too many, the strips not too long, and every source lies inside.
 pub record SourcesFit (first stride count len size : ℕ) : Type 0 where
-  pub few : count ≤ 80
-  pub short : len ≤ 2048
+  pub few : count ≤ maxSources
+  pub short : len ≤ maxLength
   pub reach : (q : ℕ) → q < count → first + q * stride + len ≤ size
 
 unfoldable pub stripAt : List ℕ → ℕ → ℕ → List ℕ
