@@ -58,27 +58,27 @@ two-bytes a b l m e =
 contentOf : Numbers → List ℕ
 contentOf p = p .n ∷ p .k ∷ p .a ∷ p .t ∷ twoBytes (p .s)
 
-same-numbers : (p q : Numbers) → p .s ≤ 512 → q .s ≤ 512 → contentOf p ≡ contentOf q → p ≡ q
+same-numbers : (p₁ p₂ : Numbers) → p₁ .s ≤ 512 → p₂ .s ≤ 512 → contentOf p₁ ≡ contentOf p₂ → p₁ ≡ p₂
 unfolding contentOf
-same-numbers p q l m e =
-    let n : p .n ≡ q .n = ap (λ (v : List ℕ). getD v 0 0) e in
-    let k : p .k ≡ q .k = ap (λ (v : List ℕ). getD v 1 0) e in
-    let a : p .a ≡ q .a = ap (λ (v : List ℕ). getD v 2 0) e in
-    let t : p .t ≡ q .t = ap (λ (v : List ℕ). getD v 3 0) e in
-    let s : p .s ≡ q .s = two-bytes (p .s) (q .s) l m (ap (drop 4) e) in
-    ap (λ (v : ℕ). made v (p .k) (p .a) (p .t) (p .s)) n
-    ∙ ap (λ (v : ℕ). made (q .n) v (p .a) (p .t) (p .s)) k
-    ∙ ap (λ (v : ℕ). made (q .n) (q .k) v (p .t) (p .s)) a
-    ∙ ap₂ (λ (v w : ℕ). made (q .n) (q .k) (q .a) v w) t s
+same-numbers p₁ p₂ l m e =
+    let n : p₁ .n ≡ p₂ .n = ap (λ (v : List ℕ). getD v 0 0) e in
+    let k : p₁ .k ≡ p₂ .k = ap (λ (v : List ℕ). getD v 1 0) e in
+    let a : p₁ .a ≡ p₂ .a = ap (λ (v : List ℕ). getD v 2 0) e in
+    let t : p₁ .t ≡ p₂ .t = ap (λ (v : List ℕ). getD v 3 0) e in
+    let s : p₁ .s ≡ p₂ .s = two-bytes (p₁ .s) (p₂ .s) l m (ap (drop 4) e) in
+    ap (λ (v : ℕ). made v (p₁ .k) (p₁ .a) (p₁ .t) (p₁ .s)) n
+    ∙ ap (λ (v : ℕ). made (p₂ .n) v (p₁ .a) (p₁ .t) (p₁ .s)) k
+    ∙ ap (λ (v : ℕ). made (p₂ .n) (p₂ .k) v (p₁ .t) (p₁ .s)) a
+    ∙ ap₂ (λ (v w : ℕ). made (p₂ .n) (p₂ .k) (p₂ .a) v w) t s
   where
     made : ℕ → ℕ → ℕ → ℕ → ℕ → Numbers
     made n k a t s = record { n = n; k = k; a = a; t = t; s = s }
 
 -- one message is not headed for two profiles
-pub head-fixes : (p q : Numbers) {m w : ℕ} {c d b : List ℕ} → p .s ≤ 512 → q .s ≤ 512 → Headed (profileOf p) m c b
-    → Headed (profileOf q) w d b → p ≡ q
+pub head-fixes : (p₁ p₂ : Numbers) {m w : ℕ} {c d b : List ℕ} → p₁ .s ≤ 512 → p₂ .s ≤ 512
+    → Headed (profileOf p₁) m c b → Headed (profileOf p₂) w d b → p₁ ≡ p₂
 unfolding contentOf
-head-fixes p q small short H K = same-numbers p q small short (sym (H .field-01) ∙ K .field-01)
+head-fixes p₁ p₂ small short H K = same-numbers p₁ p₂ small short (sym (H .field-01) ∙ K .field-01)
 
 -- ---- the recording
 -- the number in four bytes

@@ -5,7 +5,8 @@
 -- Sentence                            : a refusal, and what document 01's table says of it, for one call
 -- FirstOf table r                     : r is the first refusal in the table whose condition holds
 -- NoneApplies table                   : no condition in the table holds
--- RefusesExactly table before outcome : a call with this outcome, lent the bytes `before`, refuses as the table says
+-- RefusesExactly table before outcome : a call with this outcome, lent the bytes `before`, refuses as the table says,
+--                                       and is answered with 0 where no line of it holds
 -- Decided tests table                 : the tests that a call makes decide the sentences of the table, line by line,
 --                                       each where those before it do not hold
 -- numberIn s                          : the number of a line, and the index that it comes with
