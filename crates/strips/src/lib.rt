@@ -12,6 +12,7 @@ ghost use Rattle.strips.specs.Planes.{partOf, addedFour, Alike, Lent};
 
 // The most sources of a combination, and its longest strip.
 const MAX_SOURCES: usize = 80;
+
 const MAX_LENGTH: usize = 2048;
 
 // Copies the strip of src that starts at `at`.
