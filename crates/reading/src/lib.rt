@@ -16,6 +16,7 @@ use document::Numbers;
 use document::Profile;
 use document::Refusal;
 use square::Line;
+use square::SIDE;
 use square::Verdict;
 
 // Whether the list is k strictly rising numbers below n.
@@ -153,7 +154,7 @@ fn complete_strip(
 }
 
 // Completes all of them.
-fn complete(y: &mut [u8], p: Profile, nodes: &[u8], halves: &[u8], r: &[u8], lines: [Line; 80])
+fn complete(y: &mut [u8], p: Profile, nodes: &[u8], halves: &[u8], r: &[u8], lines: [Line; SIDE])
     requires { ⌜ Accepted p × Rising (p .n) (p .k) (now nodes) × (now halves ≡ halfPairs p (now nodes)) ⌝ }
     requires { ⌜ (length (now y) ≡ p .k * p .a * p .s) × (length (now r) ≡ length (now halves) * p .s) ⌝ }
     ensures { λ _. ⌜ now (y .exit)
@@ -224,7 +225,7 @@ fn put_data_in(
     table: &[u8],
     halves: &[u8],
     columns: &[u8],
-    lines: [Line; 80],
+    lines: [Line; SIDE],
 )
     requires { ⌜ Accepted p × Rising (p .n) (p .k) (now nodes) × (now positions ≡ positionTable (now nodes)) ⌝ }
     requires { ⌜ (now table ≡ weightTable p (now nodes)) × (now halves ≡ halfPairs p (now nodes)) ⌝ }
@@ -248,7 +249,7 @@ fn put_data(
     table: &[u8],
     halves: &[u8],
     columns: &[u8],
-    lines: [Line; 80],
+    lines: [Line; SIDE],
 )
     requires { ⌜ Accepted p × Rising (p .n) (p .k) (now nodes) × (now positions ≡ positionTable (now nodes)) ⌝ }
     requires { ⌜ (now table ≡ weightTable p (now nodes)) × (now halves ≡ halfPairs p (now nodes)) ⌝ }
@@ -256,7 +257,7 @@ fn put_data(
     ensures { λ _. ⌜ now (out .exit) ≡ dataBy p (now (nodes .entry)) lines (now (columns .entry)) ⌝ }
 {
     let size = out.len();
-    let mut y = [0u8; 80 * Profile::MAX_STRIP];
+    let mut y = [0u8; SIDE * Profile::MAX_STRIP];
     put_data_in(
         out,
         &mut y[..size],
