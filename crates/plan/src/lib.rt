@@ -5,7 +5,7 @@ ghost use Prim.Native.Nat.{ℕ, _+_, _-_, _<_, _≤_};
 ghost use lib.ListN.{length, getD, take};
 ghost use Rattle.lists.specs.Listed.{rising};
 ghost use Rattle.lists.specs.Put.{Wrote};
-ghost use Rattle.document.specs.Profile.{Accepted};
+ghost use Rattle.document.specs.Profile.{Accepted, maxNodes};
 ghost use Rattle.document.specs.Plan.{walkOf, nodesOver, planned, priceOf, planBytes, planWith, planOf};
 ghost use Rattle.plan.specs.Steps.{inStep, placesAt, placesOf};
 use document::Answer;
@@ -103,7 +103,7 @@ fn put_nodes(out: &mut [u8], p: Profile, f: Node, nodes: &[u8]) -> usize
 
 // Writes the numbers of the nodes that the plan reads at, and returns how many there are.
 pub fn list_nodes(out: &mut [u8], p: Profile, f: Node) -> usize
-    requires { ⌜ Accepted p × (f .0 < p .n) × (24 ≤ length (now out)) ⌝ }
+    requires { ⌜ Accepted p × (f .0 < p .n) × (maxNodes ≤ length (now out)) ⌝ }
     ensures { λ r. ⌜ Wrote (now (out .entry)) 0 (nodesOver (p .k) (walkOf p f)) r (now (out .exit)) ⌝ }
 {
     let own = list_step(out, 0, p.a - 1, p, f, Step::Own);

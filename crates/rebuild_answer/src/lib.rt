@@ -1,10 +1,11 @@
 // The small program of document 01 as a function: from the bytes of standard input to those of standard output.
 ghost use mathlib.Core.Path.{_≡_};
 ghost use mathlib.Core.List.{_++_};
-ghost use Prim.Native.Nat.{_+_, _<_, _≤_};
+ghost use Prim.Native.Nat.{_+_, _*_, _<_, _≤_};
 ghost use lib.ListN.{length, drop, replicate};
 ghost use Rattle.lists.specs.Put.{Wrote};
 ghost use Rattle.document.specs.Refusals.{indexOf};
+ghost use Rattle.document.specs.Profile.{maxRows, maxStrip};
 ghost use Rattle.document.specs.Rebuild.{rebuildOf};
 ghost use Rattle.document.specs.Program.{byteIn, programHead, wantedNumbers, wantedNode, wantedRecording};
 ghost use Rattle.document.specs.Program.{decimal, refusalLine, programOf};
@@ -120,7 +121,7 @@ fn rebuild_input(input: &[u8], p: Numbers, column: &mut [u8]) -> Answer
 
 // Writes what the program answers to this input, and returns the number of its bytes.
 fn put_answer(out: &mut [u8], input: &[u8]) -> usize
-    requires { ⌜ 2048 ≤ length (now out) ⌝ }
+    requires { ⌜ maxRows * maxStrip ≤ length (now out) ⌝ }
     ensures { λ r. ⌜ Wrote (now (out .entry)) 0 (programOf (now (input .entry))) r (now (out .exit)) ⌝ }
 {
     let p = numbers(input);
