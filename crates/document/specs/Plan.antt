@@ -86,8 +86,8 @@ module _ (p : Profile) (f : Node) where
   abbrev pub secondStep : List Place
   secondStep = map (rowAt A f) (take k (rising n (isDiagonal A f)))
 
-  -- 3. 'if step 2 gave fewer than k: each remaining node outside f's group whose local column is not c, rising, with two
-  -- places: its row c, then the partner of that place; until steps 2 and 3 have given k nodes.'
+  -- 3. 'if step 2 gave fewer than k: each remaining node outside f's group whose local column is not c, rising, with
+  -- two places: its row c, then the partner of that place; until steps 2 and 3 have given k nodes.'
   abbrev pub thirdStep : List Place
   thirdStep = pairsAt A f (take (k - length secondStep) (rising n (isOffDiagonal A f)))
 
