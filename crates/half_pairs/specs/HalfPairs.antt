@@ -1,7 +1,7 @@
 -- The half pairs of a reading: the strips read whose partner, on a node that is not named, is not. The base symbols of
 -- their partners are the unknowns of a small system, and all other base symbols follow from them: the equations are in
--- algebra/specs/HalfPairs.antt. That the system decides as document 01's coefficient square does is `stuck-ambiguous` and
--- `regular-clear` in proofs/System.antt.
+-- algebra/specs/HalfPairs.antt. That the system decides as document 01's coefficient square does is `stuck-ambiguous`
+-- and `regular-clear` in proofs/System.antt.
 --
 -- positionTable nodes        : where each node below maxNodes stands among the nodes
 -- named nodes q              : the q-th named node

@@ -1,6 +1,6 @@
 // The half pairs of a reading, the strips of the named nodes' columns whose partner is not read, and the system whose
-// unknowns are the base symbols of those partners. It has a line for each half pair, where document 01's coefficient square
-// has one for each strip.
+// unknowns are the base symbols of those partners. It has a line for each half pair, where document 01's coefficient
+// square has one for each strip.
 ghost use mathlib.Core.Path.{_≡_};
 ghost use mathlib.Core.Bool.{false};
 ghost use Prim.Native.Nat.{_*_, _<_};
@@ -26,8 +26,8 @@ use square::SIDE;
 // A weight at each node of each named node.
 const WEIGHTS: usize = Profile::MAX_NODES * Profile::MAX_NODES;
 
-// What the system of a reading is made of: where each node stands in the list of the named nodes, the numbers of the half
-// pairs and how many there are, and the weights at all nodes.
+// What the system of a reading is made of: where each node stands in the list of the named nodes, the numbers of the
+// half pairs and how many there are, and the weights at all nodes.
 pub struct HalfPairs {
     pub positions: [u8; Profile::MAX_NODES],
     pub halves: [u8; SIDE],
@@ -159,8 +159,8 @@ fn weight_table(p: Profile, nodes: &[u8], positions: &[u8]) -> [u8; WEIGHTS]
     table
 }
 
-// The coefficient of the half pair y's partner in the equation for the base symbol at r, which is not on a named node: the
-// factor with which the partner stands in strip y, times the weight of y's node; 0 where y is in another row.
+// The coefficient of the half pair y's partner in the equation for the base symbol at r, which is not on a named node:
+// the factor with which the partner stands in strip y, times the weight of y's node; 0 where y is in another row.
 fn partner_coefficient(p: Profile, nodes: &[u8], table: &[u8], r: Place, y: usize) -> u8
     requires { ⌜ Accepted p × Rising (p .n) (p .k) (now nodes) × (y < p .k * p .a) ⌝ }
     requires { ⌜ Within p r × (isNamed (p .k) (now nodes) (r .node .0) ≡ false) ⌝ }
@@ -177,8 +177,8 @@ fn partner_coefficient(p: Profile, nodes: &[u8], table: &[u8], r: Place, y: usiz
     gf256::mul(c, table[r.node.0 * p.k + y / p.a])
 }
 
-// Line e of the system: the coefficient of each half pair's partner in the equation for that of the e-th half pair, and 1
-// more for its own.
+// Line e of the system: the coefficient of each half pair's partner in the equation for that of the e-th half pair, and
+// 1 more for its own.
 fn system_line(p: Profile, nodes: &[u8], table: &[u8], halves: &[u8], e: usize) -> [u8; SIDE]
     requires { ⌜ Accepted p × Rising (p .n) (p .k) (now nodes) × (now table ≡ weightTable p (now nodes)) ⌝ }
     requires { ⌜ (now halves ≡ halfPairs p (now nodes)) × (e < length (now halves)) ⌝ }
@@ -212,7 +212,8 @@ fn system_square(p: Profile, nodes: &[u8], table: &[u8], halves: &[u8]) -> [Line
     s
 }
 
-// The half pairs of the named nodes and what belongs to them, once for a call. Past the half pairs `halves` holds zeros.
+// The half pairs of the named nodes and what belongs to them, once for a call. Past the half pairs `halves` holds
+// zeros.
 pub fn of_nodes(p: Profile, nodes: &[u8]) -> HalfPairs
     requires { ⌜ Accepted p × Rising (p .n) (p .k) (now nodes) ⌝ }
     ensures { λ r. ⌜ HalfPairsOf p (now (nodes .entry)) r ⌝ }
