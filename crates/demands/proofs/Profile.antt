@@ -7,32 +7,35 @@
 -- Granted p table outcome done : what is known of a call with the numbers p where it is not refused
 -- CallFor p tests table lines before outcome done : what is known of a call with the numbers p; its tests, its table
 --                                and its lines are those past the profile's
-use mathlib.Core.Path.{_≡_, refl, ap, _∙_}
+use mathlib.Core.Path.{_≡_, refl, ap, subst, _∙_}
 use mathlib.Core.Logic.{_⊎_, inl, inr}
-use mathlib.Core.List.{List, _++_}
+use mathlib.Core.List.{List, [], _++_}
 use Prim.Native.Nat.{ℕ, _≤_, _<_}
 use native.Mathlib.Decide.{ℕ-discrete, decLt}
 use native.Mathlib.Omega.{arith}
 use Rattle.document.specs.declared.Numbers.{Numbers}
 use Rattle.document.specs.declared.Profile.{Profile}
 use Rattle.document.specs.declared.Refusal.{Refusal}
+use Rattle.document.specs.declared.Checked.{Checked}
+use Rattle.document.specs.declared.Checked.the-variants.{Passed, Rejected}
 use Rattle.document.specs.declared.Answer.{Answer}
 use Rattle.document.specs.declared.Answer.the-variants.{Done, Refused}
 use Rattle.document.specs.Refusals.{numberOf, indexOf, answerNumber, Test, tried}
-use Rattle.document.specs.Profile.{Accepted, profileTests, profileOf, onAccepted}
+use Rattle.document.specs.Profile.{Accepted, profileTests, profileOf, onAccepted, checkedOf, checkedAnswer}
 use Rattle.document.proofs.Decides.{decides-not, decides-same}
 use Rattle.document.proofs.Accepts.{
   decides-shape,
   decides-constant,
   decides-strip,
   failed-accepted,
+  accepted,
   one-list,
   on-accepted-map,
   on-accepted-same,
 }
-use Rattle.document.proofs.Tried.{tried-map}
+use Rattle.document.proofs.Tried.{tried-map, tried-by}
 use Rattle.demands.specs.Tables.{Sentence, FirstOf, Decided, none, line, numberIn, Numbered}
-use Rattle.demands.specs.Profile.{profileSentences, profileLines, Demand1For}
+use Rattle.demands.specs.Profile.{profileSentences, profileLines, Demand1Profile, Demand1For}
 use Rattle.demands.proofs.Tables.{
   Holds,
   held,
@@ -90,6 +93,34 @@ module _ (p : Numbers) where
   pub profile-decided : {tests : List Test} {table : List Sentence} → (Accepted (profileOf p) → Decided tests table)
       → Decided (profileTests p ++ tests) (profileSentences p ++ table)
   profile-decided rest = decided-then profile-lines (λ f. rest (none-accepted f))
+
+-- what `Profile::new` hands out
+module _ (p : Numbers) where
+  abbrev HandedOut : Checked → Type 0
+  HandedOut (Passed profile) = profile ≡ profileOf p
+  HandedOut (Rejected r) = Unit
+
+  handed-out : HandedOut (checkedOf p)
+  unfolding checkedOf onAccepted
+  handed-out = tried-by HandedOut (profileTests p) Rejected (Passed (profileOf p)) (λ r. tt) (λ h. refl)
+
+  -- its outcome is that of a call which tries a profile's tests alone
+  abbrev told : Checked → Answer × List ℕ
+  told c = (checkedAnswer c, [])
+
+  alone : told (checkedOf p) ≡ tried (profileTests p) (λ r. (Refused r, [])) (Done 0, [])
+  unfolding checkedOf onAccepted checkedAnswer
+  alone = tried-map told (profileTests p) Rejected (Passed (profileOf p))
+
+  numbered : Numbered (profileSentences p) profileLines
+  unfolding profileSentences numberOf indexOf
+  numbered = refl
+
+  pub demand-1-profile : Demand1Profile p
+  demand-1-profile = record {
+    refuses = rw alone (call-of [] 0 [] (profile-lines p) numbered .exactly);
+    passes = λ profile e. (subst HandedOut e handed-out, accepted p e);
+  }
 
 -- ---- a call that is given a profile's numbers
 pub record Granted {X : Type 0} (p : Numbers) (table : List Sentence) (outcome done : Answer × X) : Type 1 where

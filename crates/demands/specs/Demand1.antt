@@ -10,14 +10,16 @@
 --
 -- The statements here and in the other files are about definitions. An entry point's promise, without any `requires`,
 -- is that its answer and what it leaves in the buffers lent for writing are its definition's: `encode` is encodeOf,
--- `plan` planOf, `write_bundle` writeOf, `rebuild` rebuildOf, `read_back` readOf, `survey` surveyOf, the small program
--- programOf, and an exported function is the same with its answer as one number.
+-- `plan` planOf, `write_bundle` writeOf, `rebuild` rebuildOf, `read_back` readOf, `survey` surveyOf, `Profile::new`
+-- checkedOf, and the function exported for each call is the same with its answer as one number. What the small program
+-- writes is programOf by the promise of `rebuild_answer::answer`; its `main`, which reads and writes, has none.
 --
 -- 'every entry point answers': each function of the store is proved to end without a fault.
 use mathlib.Core.List.{List}
 use Prim.Native.Nat.{ℕ}
 use Rattle.document.specs.declared.Numbers.{Numbers}
 use Rattle.document.specs.declared.Recording.{Recording}
+use Rattle.demands.specs.Profile.{Demand1Profile}
 use Rattle.demands.specs.Encoding.{Demand1Encode}
 use Rattle.demands.specs.Plan.{Demand1Plan}
 use Rattle.demands.specs.Bundle.{Demand1Write}
@@ -28,6 +30,7 @@ use Rattle.demands.specs.Program.{Demand1Program}
 
 -- 'Any bytes, any numbers, any time'
 pub record Demand1 : Type 1 where
+  pub profile : (p : Numbers) → Demand1Profile p
   pub encode : (p : Numbers) (d x : List ℕ) → Demand1Encode p d x
   pub plan : (p : Numbers) (f : ℕ) (x : List ℕ) → Demand1Plan p f x
   pub write : (p : Numbers) (f : ℕ) (r : Recording) (x b : List ℕ) → Demand1Write p f r x b

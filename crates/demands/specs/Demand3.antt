@@ -1,4 +1,5 @@
--- Demand 3, whole: each clause and the statement that says it. Shown in proofs/Demand3.antt: demand-3.
+-- Demand 3, whole: each clause and the statement that says it, and then what else is shown of bundles. Shown in
+-- proofs/Demand3.antt: demand-3.
 --
 -- Demand3 : demand 3
 use Prim.Native.Nat.{ℕ}
@@ -36,11 +37,11 @@ pub record Demand3 : Type 0 where
   -- 'Take any two stored arrays alike at the planned places, ..: rebuilds from bundles cut from them, where not
   -- refused, write the same column, ..'
   pub same-column : (p : Numbers) (f : ℕ) → SameColumn p f
-  pub cut-for-wanted : (p : Numbers) (f : ℕ) → CutForWanted p f
   -- 'Any two rebuilds given equal bundles, the same wanted numbers and buffers of equal length give the same answer'
   pub same-answer : (p : Numbers) (f : ℕ) → SameAnswer p f
-  -- what a bundle is, written and read
+  -- beyond the demand, what a bundle is, written and read
   pub write : Demand3Write
+  pub cut-for-wanted : (p : Numbers) (f : ℕ) → CutForWanted p f
   pub cut-passes : (p : Numbers) (f : ℕ) → CutPasses p f
   pub cut-column : (p : Numbers) (f : ℕ) → CutColumn p f
   pub cut-rebuilds : (p : Numbers) (f : ℕ) → CutRebuilds p f

@@ -43,7 +43,7 @@ Demand1Plan p f x =
     Demand1For p (λ p. planTests p lost x) (λ p. planSentences p lost x) ((4, 0) ∷ (5, 0) ∷ []) x (planOf p f x)
 
 pub record PlannedPlaces (p : Profile) (f : Node) (qs : List Place) : Type 0 where
-  -- 'Nodes and rows count from 0.'
+  -- places of the array: nodes below n, rows below A
   pub within : Each (Within p) qs
   -- 'distinct places'
   pub distinct : Distinct qs

@@ -2,6 +2,7 @@
 --
 -- profileSentences p : the lines for a profile's numbers
 -- profileLines       : their numbers
+-- Demand1Profile p   : the outcome of looking at the numbers p alone. Shown in proofs/Profile.antt: demand-1-profile
 -- Demand1For p tests table lines before outcome : a call that is given the numbers p refuses by these lines, and then
 --                      by its own, for an accepted profile. Shown of every such call in proofs/Profile.antt: call-for
 use mathlib.Core.Path.{_≡_}
@@ -11,9 +12,10 @@ use Prim.Native.Nat.{ℕ, _≤_, _<_}
 use Rattle.document.specs.declared.Numbers.{Numbers}
 use Rattle.document.specs.declared.Profile.{Profile}
 use Rattle.document.specs.declared.Refusal.the-variants.{Shape, Constant, StripLength}
+use Rattle.document.specs.declared.Checked.the-variants.{Passed}
 use Rattle.document.specs.declared.Answer.{Answer}
 use Rattle.document.specs.Refusals.{Test}
-use Rattle.document.specs.Profile.{ShapeAccepted, profileTests, profileOf}
+use Rattle.document.specs.Profile.{ShapeAccepted, Accepted, profileTests, profileOf, checkedOf, checkedAnswer}
 use Rattle.demands.specs.Tables.{Sentence, Demand1Of}
 
 -- 1: 'n, k or A not accepted'. 2: 't not in 2..255'. 3: 'S is 0 or above 512'.
@@ -26,6 +28,13 @@ profileSentences p =
 
 abbrev pub profileLines : List (ℕ × ℕ)
 profileLines = (1, 0) ∷ (2, 0) ∷ (3, 0) ∷ []
+
+-- `Profile::new`, with which every call begins: it refuses by these lines and is lent nothing; what it hands out is the
+-- profile with these numbers, accepted.
+pub record Demand1Profile (p : Numbers) : Type 1 where
+  pub refuses : Demand1Of {X = List ℕ} (profileTests p) (profileSentences p) profileLines []
+      (checkedAnswer (checkedOf p), [])
+  pub passes : (profile : Profile) → checkedOf p ≡ Passed profile → (profile ≡ profileOf p) × Accepted profile
 
 -- For a call that is given a profile's numbers p: its tests, its table and its lines past those of the profile.
 abbrev pub Demand1For : {X : Type 0} → Numbers → (Profile → List Test) → (Profile → List Sentence) → List (ℕ × ℕ)

@@ -5,7 +5,7 @@
 -- node input          : the node
 -- recording input     : the recording
 -- bundle input        : the bundle that follows
--- lent input          : the column that the program lends to the rebuild
+-- lent input          : the column lent to the rebuild
 -- own input           : the lines of that rebuild past those of the profile
 -- table input         : its table
 -- ProgramWrites input : the column where the rebuild is not refused, otherwise the line of its first refusal; never 5
@@ -40,7 +40,7 @@ module _ (input : List ℕ) where
   abbrev bundle : List ℕ
   bundle = drop programHead input
 
-  -- the column that the program lends
+  -- a column of the right length; what it holds changes nothing of the answer
   abbrev pub lent : List ℕ
   lent = replicate (numbers .a * numbers .s) 0
 

@@ -65,7 +65,8 @@ Demand1Rebuild p f r b y =
     Demand1For p (λ p. rebuildTests p lost r b y) (λ p. rebuildSentences p lost r b y)
     ((4, 0) ∷ (5, 0) ∷ (6, 0) ∷ (7, 0) ∷ (listed P (λ i. (8, i)) ++ listed P (λ i. (9, i)))) y (rebuildOf p f r b y)
 
--- 'The rebuilt column is the AS bytes that a rebuild not refused leaves in the buffer lent for writing.'
+-- 'where not refused': then rebuildOf .. .1 is the rebuilt column, 'the AS bytes that a rebuild not refused leaves in
+-- the buffer lent for writing'.
 abbrev pub NotRefused : Numbers → ℕ → Recording → List ℕ → List ℕ → Type 0
 NotRefused p f r b y = answerNumber (rebuildOf p f r b y .0) ≡ 0
 

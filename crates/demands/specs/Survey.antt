@@ -89,7 +89,7 @@ abbrev pub TestOfFailing : Type 0
 TestOfFailing =
     (p : Profile) → Accepted p → (pos : ℕ) → pos < sets (p .n) (p .k) → Decides (failsAt p pos) (Fails p pos)
 
--- The failing sets are exactly those on which readings are refused with 10: each reading in due form, if one is.
+-- A set fails exactly if a reading from it, in due form, is refused with 10.
 abbrev pub FailsInReading : Type 0
 FailsInReading =
     (p : Numbers) (pos : ℕ) (x y : List ℕ) → InDueForm p (setAt 0 (p .n) (p .k) pos) x y

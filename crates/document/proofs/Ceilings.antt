@@ -1,10 +1,14 @@
--- The ceilings of the crates below are what those of a profile come to.
+-- What the ceilings of a profile come to, and that those of the crates below are the same.
 use mathlib.Core.Path.{_≡_, refl}
 use Prim.Native.Nat.{_-_, _*_}
 use Rattle.ksets.specs.Sets as sets
 use Rattle.strips.specs.Strips.{maxSources, maxLength}
 use Rattle.square.specs.Steps.{side}
 use Rattle.document.specs.Profile.{maxNodes, maxRows, maxStrip}
+use Rattle.document.specs.Ceilings.{Ceilings}
+use Rattle.document.proofs.Bounds.{square-bound}
+use Rattle.document.proofs.Price.{few-places}
+use Rattle.document.proofs.Bundle.{bundle-bound}
 
 -- sets are counted of as many nodes as a profile can have
 nodes-counted : sets.maxNodes ≡ maxNodes
@@ -21,3 +25,6 @@ square-side = refl
 -- a line of the square weighs as many strips
 sources-side : maxSources ≡ side
 sources-side = refl
+
+pub ceilings : Ceilings
+ceilings = record { square = square-bound; places = few-places; bundle = bundle-bound }

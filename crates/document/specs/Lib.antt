@@ -10,3 +10,4 @@ pub mod Rebuild
 pub mod Program
 pub mod Reading
 pub mod Survey
+pub mod Ceilings

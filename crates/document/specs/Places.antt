@@ -37,7 +37,7 @@ samePlace q r = eqb (q .node .0) (r .node .0) && eqb (q .row .0) (r .row .0)
 abbrev pub placeAt : List Place → ℕ → Place
 placeAt qs i = getD qs i (place 0 0)
 
--- 'Nodes and rows count from 0.'
+-- A place of the array, 'Nodes and rows count from 0': node below n, row below A.
 pub record Within (p : Profile) (q : Place) : Type 0 where
   pub node : q .node .0 < p .n
   pub row : q .row .0 < p .a

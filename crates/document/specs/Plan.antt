@@ -102,7 +102,7 @@ plannedAt p f i = placeAt (planned p f) i
 abbrev pub priceOf : ℕ → ℕ → ℕ → ℕ
 priceOf n k A = (A - 1) + k + (k - (n / A - 1))
 
--- 'Examples: .. (24,20,4) 38'; `few-places` in proofs/ shows that no accepted profile has more.
+-- 'Examples: .. (24,20,4) 38': no accepted profile has more, see Ceilings.antt.
 abbrev pub maxPlaces : ℕ
 maxPlaces = 38
 

@@ -8,9 +8,10 @@
 -- stripAccepted S             : the test whether S is
 -- profileTests p              : the refusals 1, 2 and 3 in their order
 -- profileOf p                 : the numbers p as a profile
--- onAccepted p refuse go      : the head of a call: refuse r for the first of these refusals that applies to p; go with p
---                               as a profile if none does
+-- onAccepted p refuse go      : the head of a call: refuse r for the first of these refusals that applies to p; go
+--                               with p as a profile if none does
 -- checkedOf p                 : the profile with the numbers p, or its first refusal
+-- checkedAnswer c             : the same as the answer of any call
 use mathlib.Core.Path.{_≡_}
 use mathlib.Core.Bool.{Bool, _&&_, not}
 use mathlib.Core.List.{List, [], _∷_}
@@ -22,6 +23,8 @@ use Rattle.document.specs.declared.Refusal.{Refusal}
 use Rattle.document.specs.declared.Refusal.the-variants.{Shape, Constant, StripLength}
 use Rattle.document.specs.declared.Checked.{Checked}
 use Rattle.document.specs.declared.Checked.the-variants.{Passed, Rejected}
+use Rattle.document.specs.declared.Answer.{Answer}
+use Rattle.document.specs.declared.Answer.the-variants.{Done, Refused}
 use Rattle.document.specs.Refusals.{Test, tried}
 
 -- 'The ceilings are 24 nodes, 4 rows and 512 bytes of strip'
@@ -80,3 +83,9 @@ onAccepted p refuse go = tried (profileTests p) refuse (go (profileOf p))
 
 unfoldable pub checkedOf : Numbers → Checked
 checkedOf p = onAccepted p Rejected Passed
+
+-- 'For any answer that is an enum, a definition gives this paper's number and values for each case.' The number and the
+-- value are those of the answer: 0 with 0, or the refusal's.
+unfoldable pub checkedAnswer : Checked → Answer
+checkedAnswer (Passed p) = Done 0
+checkedAnswer (Rejected r) = Refused r

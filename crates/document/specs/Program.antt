@@ -26,7 +26,8 @@ use Rattle.document.specs.Rebuild.{rebuildOf}
 abbrev pub byteIn : List ℕ → ℕ → ℕ
 byteIn input i = getD input i 0
 
--- 'eleven bytes (n, k, A, t, S in two, wanted node, wanted scenario in four; ..)'
+-- 'eleven bytes (n, k, A, t, S in two, wanted node, wanted scenario in four; ..)', high byte first as in a bundle: a
+-- reading of ours, which docs/DECISIONS.md has.
 abbrev pub programHead : ℕ
 programHead = 11
 
@@ -63,8 +64,8 @@ unfoldable pub outputOf : Answer × List ℕ → List ℕ
 outputOf (Done v, column) = column
 outputOf (Refused r, column) = refusalLine r
 
--- '.. and then a bundle, which is all that follows'. The column that the program lends to the rebuild has the right
--- length.
+-- '.. and then a bundle, which is all that follows'. Said with a column of the right length, zeros; what a lent column
+-- holds changes nothing of the answer.
 unfoldable pub programOf : List ℕ → List ℕ
 programOf input =
     let p : Numbers = wantedNumbers input in

@@ -7,6 +7,9 @@
 -- Test                 : a refusal, and whether its condition holds
 -- tried tests refuse x : refuse r for the first refusal r whose condition holds; x if none does
 -- Decides test P       : the test is true exactly where P holds
+--
+-- The lists of tests in the files of the calls compute. What is to be believed of a call are the sentences that they
+-- are shown to decide: demands/specs.
 use mathlib.Core.Path.{_≡_}
 use mathlib.Core.Logic.{_↔_}
 use mathlib.Core.Bool.{Bool, true, false}

@@ -19,7 +19,7 @@ pub struct Numbers {
 }
 
 // The same as a profile: nodes, data nodes, rows, coupling constant, strip length in bytes. `Profile::new` hands out
-// accepted ones only; a function that is given one asks that it is `Accepted`.
+// accepted ones only; a function that rests on that asks that it is `Accepted`.
 pub struct Profile {
     pub n: usize,
     pub k: usize,

@@ -1,4 +1,4 @@
--- How much of its input the small program reads at most.
+-- How much of its input the small program's answer turns on.
 --
 -- longestInput : the head and the longest bundle
 -- LongerInput  : an input longer than that is answered as its first bytes are. Shown in proofs/Longer.antt:
@@ -14,7 +14,7 @@ abbrev pub longestInput : ℕ
 longestInput = programHead + longestBundle
 
 -- 'and then a bundle, which is all that follows': of an input of at least m bytes the first m answer for all, if m is
--- greater than the longest input. The program reads one byte more than that.
+-- greater than the longest input. The program keeps one byte more than that, and reads the rest away.
 abbrev pub LongerInput : Type 0
 LongerInput =
     (m : ℕ) → longestInput < m → (input : List ℕ) → m ≤ length input → programOf input ≡ programOf (take m input)
