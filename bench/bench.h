@@ -6,7 +6,9 @@
 #include <stddef.h>
 #include <stdint.h>
 
-enum { NODES = 24, ROWS = 4, STRIP = 512, COLUMN = ROWS * STRIP, SIDE = 80 };
+#include "whaupfield.h"
+
+enum { NODES = WHAUPFIELD_MAX_NODES, ROWS = WHAUPFIELD_MAX_ROWS, COLUMN = WHAUPFIELD_MAX_COLUMN, SIDE = 80 };
 
 /* The two lists of k nodes that are read back from: the last k, and those left where the groups lose a node in turn. */
 enum { LAST, SPREAD, LISTS };
@@ -14,13 +16,9 @@ enum { LAST, SPREAD, LISTS };
 /* The sample of a survey: runs of sets, which start evenly over all sets. */
 enum { RUNS = 8, RUN = 25 };
 
-struct profile {
-    size_t n, k, a, t, s;
-};
-
 /* Everything that is worked on. It is made, with our own calls where it is our code's, before anyone is timed. */
 struct setup {
-    struct profile p;
+    struct whaupfield_profile p;
     _Alignas(64) uint8_t data[NODES * COLUMN];  /* k columns; to the peers k blocks */
     _Alignas(64) uint8_t array[NODES * COLUMN]; /* the encoded array */
     uint8_t generator[NODES * ROWS * SIDE];     /* for each stored strip the k*a coefficients of the data strips */
@@ -32,7 +30,7 @@ struct setup {
 };
 
 extern struct setup setup;
-void prepare_setup(struct profile p);
+void prepare_setup(struct whaupfield_profile p);
 
 enum job { ENCODE, REBUILD, READ_LAST, READ_SPREAD, SURVEY, JOBS };
 

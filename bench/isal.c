@@ -54,7 +54,7 @@ static void read_wanted(struct reading *r)
 /* Blocks of the plain code: kept are the first k nodes that are not missing, wanted the missing data blocks. */
 static void prepare_reading(struct reading *r, const uint8_t *missing, size_t count)
 {
-    const struct profile *p = &setup.p;
+    const struct whaupfield_profile *p = &setup.p;
     size_t kept = 0, m = 0;
 
     *r = (struct reading){.side = p->k, .length = p->a * p->s, .matrix = matrix};
@@ -76,7 +76,7 @@ static void prepare_reading(struct reading *r, const uint8_t *missing, size_t co
 /* Strips of our own code: kept are all those of the listed nodes, wanted all data strips. */
 static void prepare_square(struct reading *r, const uint8_t *kept)
 {
-    const struct profile *p = &setup.p;
+    const struct whaupfield_profile *p = &setup.p;
 
     *r = (struct reading){.side = p->k * p->a, .wanted = p->k * p->a, .length = p->s, .matrix = setup.generator};
     for (size_t z = 0; z < p->k * p->a; z++) {
@@ -106,7 +106,7 @@ static void make_random_square(void)
 
 static size_t encode(int which)
 {
-    const struct profile *p = &setup.p;
+    const struct whaupfield_profile *p = &setup.p;
 
     (void)which;
     ec_encode_data(p->a * p->s, p->k, p->n - p->k, tables, block, block + p->k);
@@ -115,7 +115,7 @@ static size_t encode(int which)
 
 static size_t make_and_encode(int which)
 {
-    const struct profile *p = &setup.p;
+    const struct whaupfield_profile *p = &setup.p;
 
     gf_gen_cauchy1_matrix(matrix, p->n, p->k);
     ec_init_tables(p->k, p->n - p->k, matrix + p->k * p->k, tables);
@@ -124,7 +124,7 @@ static size_t make_and_encode(int which)
 
 void prepare_isal(void)
 {
-    const struct profile *p = &setup.p;
+    const struct whaupfield_profile *p = &setup.p;
     size_t width = p->a * p->s;
 
     for (size_t node = 0; node < p->n; node++)
@@ -177,7 +177,7 @@ static size_t read_square(int list)
 static size_t invert_sets(bool plain)
 {
     static uint8_t inverse[SIDE * SIDE];
-    const struct profile *p = &setup.p;
+    const struct whaupfield_profile *p = &setup.p;
     size_t rows = plain ? 1 : p->a, without = 0, line[SIDE];
 
     for (size_t i = 0; i < setup.sets; i++) {

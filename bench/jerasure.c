@@ -16,7 +16,7 @@ static char *pointer[NODES]; /* to the blocks of all nodes: data, then parity */
 
 static size_t encode(int which)
 {
-    const struct profile *p = &setup.p;
+    const struct whaupfield_profile *p = &setup.p;
 
     (void)which;
     jerasure_matrix_encode(p->k, p->n - p->k, WORD, matrix, pointer, pointer + p->k, p->a * p->s);
@@ -32,7 +32,7 @@ static size_t make_and_encode(int which)
 
 void prepare_jerasure(void)
 {
-    const struct profile *p = &setup.p;
+    const struct whaupfield_profile *p = &setup.p;
     size_t width = p->a * p->s;
 
     for (size_t node = 0; node < p->n; node++)
@@ -47,7 +47,7 @@ void prepare_jerasure(void)
  * of the data blocks. */
 static int decode(const uint8_t *missing, size_t count, int ones)
 {
-    const struct profile *p = &setup.p;
+    const struct whaupfield_profile *p = &setup.p;
     int erasures[NODES + 1];
 
     for (size_t m = 0; m < count; m++)
@@ -76,7 +76,7 @@ static size_t read_back(int list)
 static size_t judge_sets(void)
 {
     static int square[SIDE * SIDE];
-    const struct profile *p = &setup.p;
+    const struct whaupfield_profile *p = &setup.p;
     size_t side = p->k * p->a, without = 0;
 
     for (size_t i = 0; i < setup.sets; i++) {

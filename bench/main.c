@@ -6,7 +6,8 @@
 
 enum { PROFILES = 3, NAME = 42 }; /* NAME: the width of a line's name */
 
-static const struct profile profiles[PROFILES] = {{14, 10, 2, 2, 512}, {12, 8, 4, 2, 512}, {24, 20, 4, 2, 512}};
+static const struct whaupfield_profile profiles[PROFILES] = {
+    {14, 10, 2, 2, 512}, {12, 8, 4, 2, 512}, {24, 20, 4, 2, 512}};
 
 /* What was measured at each profile; the first candidate of a job is ours. */
 static double microseconds[JOBS][PROFILES][CANDIDATES], ratio[JOBS][PROFILES][CANDIDATES];
@@ -27,7 +28,7 @@ static size_t candidates(enum job job, const struct candidate **list)
 
 static void measure_profile(size_t i)
 {
-    const struct profile *p = &profiles[i];
+    const struct whaupfield_profile *p = &profiles[i];
     const struct candidate *list[CANDIDATES];
 
     prepare_setup(*p);
@@ -119,7 +120,7 @@ static void print_ratios(void)
 }
 
 /* A line of the second table: ours alone at one profile. */
-static void print_growth(struct profile p)
+static void print_growth(struct whaupfield_profile p)
 {
     double took, one;
     char shape[24];
@@ -142,13 +143,13 @@ static void print_growths(void)
     printf("%-18s%12s%12s%12s%12s%12s\n", "(n,k,A) S", "encode", "rebuild", "last k", "each group", "survey, set");
     printf("as S grows\n");
     for (size_t s = 64; s <= 512; s *= 2)
-        print_growth((struct profile){24, 20, 4, 2, s});
+        print_growth((struct whaupfield_profile){24, 20, 4, 2, s});
     printf("as k grows, with four parity nodes\n");
     for (size_t k = 4; k <= 20; k += 4)
-        print_growth((struct profile){k + 4, k, 4, 2, 512});
+        print_growth((struct whaupfield_profile){k + 4, k, 4, 2, 512});
     printf("as A grows\n");
     for (size_t a = 2; a <= 4; a++)
-        print_growth((struct profile){24, 20, a, 2, 512});
+        print_growth((struct whaupfield_profile){24, 20, a, 2, 512});
 }
 
 int main(void)

@@ -2,11 +2,10 @@
 #include <string.h>
 
 #include "bench.h"
-#include "whaupfield.h"
 
-enum { SCENARIO = 7, BUNDLE = 17 + 38 * (9 + STRIP) };
+enum { SCENARIO = 7 };
 
-static uint8_t bundle[NODES][BUNDLE];
+static uint8_t bundle[NODES][WHAUPFIELD_MAX_BUNDLE];
 static size_t bundle_length;
 _Alignas(64) static uint8_t array[NODES * COLUMN], columns[LISTS][NODES * COLUMN];
 _Alignas(64) static uint8_t column[COLUMN], output[NODES * COLUMN];
@@ -14,19 +13,19 @@ _Alignas(64) static uint8_t column[COLUMN], output[NODES * COLUMN];
 /* The columns of listed nodes, joined in list order. */
 static void join(uint8_t *to, const uint8_t *from, const uint8_t *nodes)
 {
-    size_t width = setup.p.a * setup.p.s;
+    size_t width = whaupfield_column_length(setup.p);
 
-    for (size_t q = 0; q < setup.p.k; q++)
-        memcpy(to + q * width, from + nodes[q] * width, width);
+    for (size_t i = 0; i < setup.p.k; i++)
+        memcpy(to + i * width, from + nodes[i] * width, width);
 }
 
 void prepare_ours(void)
 {
-    const struct profile *p = &setup.p;
+    const struct whaupfield_profile *p = &setup.p;
 
-    bundle_length = 17 + setup.places * (9 + p->s);
+    bundle_length = whaupfield_bundle_length(*p);
     for (size_t node = 0; node < p->n; node++)
-        whaupfield_write_bundle(p->n, p->k, p->a, p->t, p->s, node, SCENARIO, setup.array, p->n * p->a * p->s,
+        whaupfield_write_bundle(WHAUPFIELD_PROFILE(*p), node, SCENARIO, setup.array, whaupfield_array_length(*p),
                                 bundle[node], bundle_length);
     for (int list = 0; list < LISTS; list++)
         join(columns[list], setup.array, setup.kept[list]);
@@ -34,19 +33,20 @@ void prepare_ours(void)
 
 static size_t encode(int which)
 {
-    const struct profile *p = &setup.p;
+    const struct whaupfield_profile *p = &setup.p;
 
     (void)which;
-    whaupfield_encode(p->n, p->k, p->a, p->t, p->s, setup.data, p->k * p->a * p->s, array, p->n * p->a * p->s);
+    whaupfield_encode(WHAUPFIELD_PROFILE(*p), setup.data, whaupfield_data_length(*p), array,
+                      whaupfield_array_length(*p));
     return 1;
 }
 
 static uint64_t rebuild_node(size_t node)
 {
-    const struct profile *p = &setup.p;
+    const struct whaupfield_profile *p = &setup.p;
 
-    return whaupfield_rebuild(p->n, p->k, p->a, p->t, p->s, node, SCENARIO, bundle[node], bundle_length, column,
-                              p->a * p->s);
+    return whaupfield_rebuild(WHAUPFIELD_PROFILE(*p), node, SCENARIO, bundle[node], bundle_length, column,
+                              whaupfield_column_length(*p));
 }
 
 /* The nodes of the first group in turn, so that every local column is met. */
@@ -62,10 +62,10 @@ static size_t rebuild(int which)
 
 static uint64_t read_from(const uint8_t *nodes, const uint8_t *from)
 {
-    const struct profile *p = &setup.p;
-    size_t length = p->k * p->a * p->s;
+    const struct whaupfield_profile *p = &setup.p;
+    size_t length = whaupfield_data_length(*p);
 
-    return whaupfield_read_back(p->n, p->k, p->a, p->t, p->s, nodes, p->k, from, length, output, length);
+    return whaupfield_read_back(WHAUPFIELD_PROFILE(*p), nodes, p->k, from, length, output, length);
 }
 
 static size_t read_back(int list)
@@ -76,14 +76,14 @@ static size_t read_back(int list)
 
 static size_t survey(int which)
 {
-    const struct profile *p = &setup.p;
+    const struct whaupfield_profile *p = &setup.p;
     uint8_t set[NODES];
     size_t looked = 0;
 
     (void)which;
     for (size_t run = 0; run < RUNS; run++)
         looked += WHAUPFIELD_LOOKED(
-            whaupfield_survey(p->n, p->k, p->a, p->t, p->s, setup.start[run], setup.most, set, p->k));
+            whaupfield_survey(WHAUPFIELD_PROFILE(*p), setup.start[run], setup.most, set, p->k));
     return looked;
 }
 
@@ -91,7 +91,7 @@ static size_t survey(int which)
 static bool gives_data(const uint8_t *nodes, const uint8_t *from)
 {
     memset(output, 0xEE, sizeof output);
-    return read_from(nodes, from) == 0 && memcmp(output, setup.data, setup.p.k * setup.p.a * setup.p.s) == 0;
+    return read_from(nodes, from) == 0 && memcmp(output, setup.data, whaupfield_data_length(setup.p)) == 0;
 }
 
 /* Whether the data come back from what was encoded, by either list. */
@@ -111,7 +111,7 @@ static bool encode_right(int which)
 
 static bool rebuild_right(int which)
 {
-    size_t width = setup.p.a * setup.p.s;
+    size_t width = whaupfield_column_length(setup.p);
     bool right = true;
 
     (void)which;

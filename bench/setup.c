@@ -2,42 +2,44 @@
 #include <string.h>
 
 #include "bench.h"
-#include "whaupfield.h"
 
 struct setup setup;
 
 static void make_data(void)
 {
-    const struct profile *p = &setup.p;
-    size_t width = p->a * p->s;
+    const struct whaupfield_profile *p = &setup.p;
+    size_t length = whaupfield_data_length(*p);
     uint32_t x = 1;
 
-    for (size_t b = 0; b < p->k * width; b++) {
+    for (size_t b = 0; b < length; b++) {
         x = x * 1664525 + 1013904223;
         setup.data[b] = x >> 24;
     }
-    whaupfield_encode(p->n, p->k, p->a, p->t, p->s, setup.data, p->k * width, setup.array, p->n * width);
+    whaupfield_encode(WHAUPFIELD_PROFILE(*p), setup.data, length, setup.array, whaupfield_array_length(*p));
 }
 
 /* Encodes the unit data: k*a bytes a strip, one for each data symbol, and the strip of a symbol has a 1 at its own
  * byte. The symbols are counted row by row, the order that our squares have. */
 static void make_generator(void)
 {
-    const struct profile *p = &setup.p;
+    const struct whaupfield_profile *p = &setup.p;
     size_t side = p->k * p->a;
+    struct whaupfield_profile units = *p;
     static uint8_t unit[SIDE * SIDE];
 
     memset(unit, 0, sizeof unit);
     for (size_t node = 0; node < p->k; node++)
         for (size_t row = 0; row < p->a; row++)
             unit[(node * p->a + row) * side + row * p->k + node] = 1;
-    whaupfield_encode(p->n, p->k, p->a, p->t, side, unit, side * side, setup.generator, p->n * p->a * side);
+    units.s = side;
+    whaupfield_encode(WHAUPFIELD_PROFILE(units), unit, whaupfield_data_length(units), setup.generator,
+                      whaupfield_array_length(units));
 }
 
 /* The lists. With SPREAD the m-th missing node is in group m, or from the first group on again where these run out. */
 static void make_lists(void)
 {
-    const struct profile *p = &setup.p;
+    const struct whaupfield_profile *p = &setup.p;
     size_t groups = p->n / p->a, lost = p->n - p->k;
 
     for (int list = 0; list < LISTS; list++) {
@@ -79,18 +81,17 @@ static size_t number_of_sets(void)
 /* Surveys run after run and writes down the sets that were looked at. */
 static void make_sample(void)
 {
-    const struct profile *p = &setup.p;
+    const struct whaupfield_profile *p = &setup.p;
     size_t all = number_of_sets(), at = 0;
     uint8_t set[NODES], failing[NODES];
 
-    for (size_t q = 0; q < p->k; q++)
-        set[q] = q;
+    for (size_t i = 0; i < p->k; i++)
+        set[i] = i;
     setup.most = all / RUNS < RUN ? all / RUNS : RUN;
     setup.sets = setup.failing = 0;
     for (size_t run = 0; run < RUNS; run++) {
         setup.start[run] = run * all / RUNS;
-        uint64_t answer =
-            whaupfield_survey(p->n, p->k, p->a, p->t, p->s, setup.start[run], setup.most, failing, p->k);
+        uint64_t answer = whaupfield_survey(WHAUPFIELD_PROFILE(*p), setup.start[run], setup.most, failing, p->k);
         setup.failing += WHAUPFIELD_OUTCOME(answer) == WHAUPFIELD_FAILING;
         for (; at < setup.start[run]; at++)
             step(set);
@@ -101,14 +102,14 @@ static void make_sample(void)
     }
 }
 
-void prepare_setup(struct profile p)
+void prepare_setup(struct whaupfield_profile p)
 {
-    uint8_t places[76];
+    uint8_t places[WHAUPFIELD_MAX_PLAN];
 
     setup.p = p;
     make_data();
     make_generator();
     make_lists();
     make_sample();
-    setup.places = WHAUPFIELD_VALUE(whaupfield_plan(p.n, p.k, p.a, p.t, p.s, 0, places, sizeof places));
+    setup.places = WHAUPFIELD_VALUE(whaupfield_plan(WHAUPFIELD_PROFILE(p), 0, places, sizeof places));
 }

@@ -1,47 +1,88 @@
-/* Encodes document 01's sample recording with (n, k, A) = (4, 2, 2), t = 2, S = 1, loses node 0, plans, cuts a bundle
- * for scenario 7 and rebuilds the column from it; then shows what that bundle gets where scenario 8 is wanted, and what
- * a bundle of scenario 8 gets whose first strip was filled in from the last download. */
+/* Encodes document 01's sample recording with (n, k, A) = (4, 2, 2), t = 2, S = 1, loses node 0, cuts a bundle for
+ * scenario 7, prints its strips beside the plan and rebuilds the column from it; then shows what that bundle gets
+ * where scenario 8 is wanted, and what a bundle of scenario 8 gets whose first strip was filled in from the last
+ * download. */
 #include <stdio.h>
+#include <stdlib.h>
 #include <string.h>
 
 #include "whaupfield.h"
 
-enum { N = 4, K = 2, A = 2, T = 2, S = 1, LOST = 0, PLACES = 4, HEAD = 17, FIELD = 9 + S };
+/* In a bundle of this profile the first strip's field starts at HEAD, and each has FIELD bytes, its strip last. */
+enum { LOST = 0, HEAD = 17, S = 1, FIELD = 9 + S };
 
-static void print_refusal(const char *what, uint64_t answer)
+static const struct whaupfield_profile p = {.n = 4, .k = 2, .a = 2, .t = 2, .s = S};
+
+static uint8_t *buffer(size_t length)
 {
-    printf("%s: refused %u at %llu\n", what, WHAUPFIELD_NUMBER(answer), (unsigned long long)WHAUPFIELD_VALUE(answer));
+    uint8_t *bytes = malloc(length);
+
+    if (bytes == NULL)
+        exit(1);
+    return bytes;
+}
+
+static void print_answer(const char *call, uint64_t answer)
+{
+    unsigned number = WHAUPFIELD_NUMBER(answer);
+    unsigned long long value = WHAUPFIELD_VALUE(answer);
+
+    if (number == WHAUPFIELD_OK)
+        printf("%s: %s with %llu\n", call, whaupfield_refusal_name(number), value);
+    else
+        printf("%s: refused %u at %llu: %s\n", call, number, value, whaupfield_refusal_sentence(number));
+}
+
+/* Prints the plan, and the strip of each planned place in the bundle. */
+static void print_strips(const uint8_t *bundle)
+{
+    uint8_t places[WHAUPFIELD_MAX_PLAN];
+    uint64_t answer = whaupfield_plan(WHAUPFIELD_PROFILE(p), LOST, places, sizeof places);
+
+    print_answer("plan", answer);
+    for (uint64_t i = 0; i < WHAUPFIELD_VALUE(answer); i++)
+        printf("strip %d of node %d row %d: %02X\n", (int)i, places[2 * i], places[2 * i + 1],
+               bundle[HEAD + i * FIELD + 9]);
+}
+
+/* The array of the sample data. */
+static void encode(uint8_t *array, size_t length)
+{
+    const uint8_t data[] = {0x01, 0x00, 0x02, 0x04};
+
+    print_answer("encode", whaupfield_encode(WHAUPFIELD_PROFILE(p), data, sizeof data, array, length));
 }
 
 int main(void)
 {
-    const uint8_t data[K * A * S] = {0x01, 0x00, 0x02, 0x04};
-    uint8_t array[N * A * S], places[2 * PLACES], bundle[HEAD + PLACES * FIELD], newer[sizeof bundle];
-    uint8_t kept[A * S], column[A * S] = {0};
-    uint64_t answer = whaupfield_encode(N, K, A, T, S, data, sizeof data, array, sizeof array);
-    printf("encode: %u\n", WHAUPFIELD_NUMBER(answer));
+    size_t length = whaupfield_array_length(p), width = whaupfield_column_length(p);
+    size_t cut = whaupfield_bundle_length(p);
+    uint8_t *array = buffer(length), *bundle = buffer(cut), *newer = buffer(cut);
+    uint8_t *kept = buffer(width), *column = buffer(width);
 
     /* The lost column is kept to compare with; in the array it is gone. */
-    memcpy(kept, array + LOST * A * S, sizeof kept);
-    memset(array + LOST * A * S, 0xEE, sizeof kept);
+    encode(array, length);
+    memcpy(kept, array + LOST * width, width);
+    memset(array + LOST * width, 0xEE, width);
 
-    answer = whaupfield_plan(N, K, A, T, S, LOST, places, sizeof places);
-    printf("plan: %u, %llu places\n", WHAUPFIELD_NUMBER(answer), (unsigned long long)WHAUPFIELD_VALUE(answer));
-    answer = whaupfield_write_bundle(N, K, A, T, S, LOST, 7, array, sizeof array, bundle, sizeof bundle);
-    printf("bundle: %u, %llu bytes\n", WHAUPFIELD_NUMBER(answer), (unsigned long long)WHAUPFIELD_VALUE(answer));
-    for (int i = 0; i < PLACES; i++)
-        printf("strip %d of node %d row %d: %02X\n", i, places[2 * i], places[2 * i + 1], bundle[HEAD + i * FIELD + 9]);
+    uint64_t answer = whaupfield_write_bundle(WHAUPFIELD_PROFILE(p), LOST, 7, array, length, bundle, cut);
+    print_answer("write bundle", answer);
+    print_strips(bundle);
+    print_answer("rebuild", whaupfield_rebuild(WHAUPFIELD_PROFILE(p), LOST, 7, bundle, cut, column, width));
+    printf("column %02X %02X, %s\n", column[0], column[1],
+           memcmp(column, kept, width) == 0 ? "as it was" : "not what it was");
 
-    answer = whaupfield_rebuild(N, K, A, T, S, LOST, 7, bundle, sizeof bundle, column, sizeof column);
-    printf("rebuild: %u, column %02X %02X, %s\n", WHAUPFIELD_NUMBER(answer), column[0], column[1],
-           memcmp(column, kept, sizeof kept) == 0 ? "as it was" : "not what it was");
+    answer = whaupfield_rebuild(WHAUPFIELD_PROFILE(p), LOST, 8, bundle, cut, column, width);
+    print_answer("rebuild for scenario 8", answer);
 
-    answer = whaupfield_rebuild(N, K, A, T, S, LOST, 8, bundle, sizeof bundle, column, sizeof column);
-    print_refusal("rebuild for scenario 8", answer);
-
-    whaupfield_write_bundle(N, K, A, T, S, LOST, 8, array, sizeof array, newer, sizeof newer);
+    whaupfield_write_bundle(WHAUPFIELD_PROFILE(p), LOST, 8, array, length, newer, cut);
     memcpy(newer + HEAD, bundle + HEAD, FIELD);
-    answer = whaupfield_rebuild(N, K, A, T, S, LOST, 8, newer, sizeof newer, column, sizeof column);
-    print_refusal("rebuild with a strip of scenario 7", answer);
+    answer = whaupfield_rebuild(WHAUPFIELD_PROFILE(p), LOST, 8, newer, cut, column, width);
+    print_answer("rebuild with a strip of scenario 7", answer);
+    free(array);
+    free(bundle);
+    free(newer);
+    free(kept);
+    free(column);
     return 0;
 }

@@ -1,40 +1,35 @@
-/* The array store's functions for a C host.
+/* The array store's functions for a C host. Version 0.1.0, before the first release: names and parameters may change.
  *
- * Every function takes plain numbers and buffers that the caller owns. A buffer is a pointer and, after it, its length in
- * bytes: the pointer is not NULL, also where the length is 0, and points to that many bytes. A const buffer is lent for
- * reading, the other one for writing. Buffers lent to one call must not overlap. Nothing is allocated, and nothing is kept
- * between calls: calls with buffers of their own may run at the same time.
+ * Every function takes plain numbers and buffers that the caller owns. A buffer is a pointer and, after it, its length
+ * in bytes: the pointer is not NULL, also where the length is 0, and points to that many bytes. A const buffer is lent
+ * for reading, the other one for writing. Buffers lent to one call must not overlap. Nothing is allocated, and nothing
+ * is kept between calls: calls with buffers of their own may run at the same time.
  *
  * A function answers any numbers and any bytes. After a refusal every lent byte is what it was.
  *
- * A profile is n (nodes), k (data nodes), a (rows), t (coupling constant), s (strip length in bytes). Nodes and rows count
- * from 0. In memory the strip of row i, node j starts at (j*a + i) * s, so a node's column is its a strips, row 0 first;
- * data use the same order with j < k. Data have k*a*s bytes, an array n*a*s, a column a*s.
+ * Numbers are size_t, so that none is cut down on its way: t = 258 is refused and not taken for 2. A scenario is a
+ * uint32_t, and a number in a node list a byte: there C cuts a wider number down, without a warning unless the compiler
+ * is asked for one (-Wconversion), and the call cannot see it. Compare a wider scenario with UINT32_MAX first.
+ *
+ * A profile is n (nodes), k (data nodes), a (rows), t (coupling constant), s (strip length in bytes). Nodes and rows
+ * count from 0. In memory the strip of row i, node j starts at (j*a + i) * s, so a node's column is its a strips, row 0
+ * first; data use the same order with j < k. One call is about one array. A recording of more data than an array holds
+ * is many arrays, and nothing in a bundle tells two arrays of one recording apart: the host keeps them apart.
  *
  * Answers, the same for every call: WHAUPFIELD_NUMBER is 0 on success, otherwise the number of the refusal;
- * WHAUPFIELD_VALUE is what comes with it.
- *   1  n, k or a is not accepted. Accepted: k >= 1, n > k, 2 <= a <= 4, a <= n-k, a divides n, n <= 24
- *   2  t is not in 2..255
- *   3  s is 0 or above 512
- *   4  the lost node is not below n; the node list is not k strictly rising numbers below n; the survey's start is above
- *      the number of sets
- *   5  a lent buffer other than a bundle to read has the wrong length; each call below says which length is right
- *   6  the bundle's total length, its tags or its field lengths are not those of the wanted profile and node
- *   7  the content of its field 01 or 02 is not the wanted profile, node and scenario
- *   8  a strip's place is not the plan's
- *   9  a strip's scenario is not the wanted one
- *  10  some two different data give equal columns on the named nodes, whatever the columns hold: other nodes may do
- * The first in this order that applies is the answer: a misplaced strip goes before a stale one, wherever they stand.
- * With 8 and 9 comes the index of the first such strip, from 0 in plan order; with the others 0. docs/OPERATOR.md says
- * what to do about each.
+ * WHAUPFIELD_VALUE is what comes with it. On success each call below says what that is. With WHAUPFIELD_MISPLACED and
+ * WHAUPFIELD_STALE it is the index of the first such strip, from 0 in plan order, with any other refusal 0. The lowest
+ * number that applies is the answer: a misplaced strip goes before a stale one, wherever they stand. docs/OPERATOR.md
+ * says what to do about each refusal.
  *
  * A bundle is fields of a one-byte tag, a two-byte length and content, all numbers high byte first:
  *   01 00 06  n, k, a, t, s in two bytes
  *   02 00 05  lost node, scenario in four bytes
- *   03 and the length 6 + s, once for each place of the plan, in its order: node, row, scenario in four bytes, the strip
+ *   03 and the length 6 + s, once for each place of the plan, in its order: node, row, scenario in four bytes, strip
  * A host that fetches the planned strips itself can put one together.
  *
- * Stack: reading back takes up to 75 KB, a survey 25 KB, a rebuild 20 KB, encoding 5 KB, the other calls less than 1 KB.
+ * Stack, as measured: reading back takes up to 66 KB, a survey 21 KB, a rebuild 16 KB, encoding 5 KB, the other calls
+ * less than 1 KB. A stack that is too small ends in a fault and not in a refusal.
  */
 #ifndef WHAUPFIELD_H
 #define WHAUPFIELD_H
@@ -42,68 +37,190 @@
 #include <stddef.h>
 #include <stdint.h>
 
+#define WHAUPFIELD_VERSION_MAJOR 0
+#define WHAUPFIELD_VERSION_MINOR 1
+#define WHAUPFIELD_VERSION_PATCH 0
+#define WHAUPFIELD_VERSION "0.1.0"
+
 #define WHAUPFIELD_NUMBER(answer) ((unsigned)((uint64_t)(answer) & 0xFF))
 #define WHAUPFIELD_VALUE(answer) ((uint64_t)(answer) >> 8)
 
-/* The parts of a survey's value. With a refusal all three are 0. */
+/* The parts of a survey's value. With a refusal all three are 0, and the position is 0 with done and open too. */
 #define WHAUPFIELD_OUTCOME(answer) ((unsigned)((uint64_t)(answer) >> 8 & 3))
 #define WHAUPFIELD_POSITION(answer) ((uint64_t)(answer) >> 10 & 0x3FFFFF)
 #define WHAUPFIELD_LOOKED(answer) ((uint64_t)(answer) >> 32)
 
 enum { WHAUPFIELD_FAILING = 1, WHAUPFIELD_DONE = 2, WHAUPFIELD_OPEN = 3 };
 
+/* The refusals, in the order in which they are tried; whaupfield_refusal_sentence says when each is given. */
+enum whaupfield_refusal {
+    WHAUPFIELD_OK = 0,
+    WHAUPFIELD_SHAPE = 1,
+    WHAUPFIELD_CONSTANT = 2,
+    WHAUPFIELD_STRIP_LENGTH = 3,
+    WHAUPFIELD_OUT_OF_RANGE = 4,
+    WHAUPFIELD_BUFFER_LENGTH = 5,
+    WHAUPFIELD_FORM = 6,
+    WHAUPFIELD_HEAD = 7,
+    WHAUPFIELD_MISPLACED = 8,
+    WHAUPFIELD_STALE = 9,
+    WHAUPFIELD_AMBIGUOUS = 10
+};
+
+/* The name that a number of an answer has above. */
+static inline const char *whaupfield_refusal_name(unsigned number)
+{
+    switch (number) {
+    case WHAUPFIELD_OK: return "WHAUPFIELD_OK";
+    case WHAUPFIELD_SHAPE: return "WHAUPFIELD_SHAPE";
+    case WHAUPFIELD_CONSTANT: return "WHAUPFIELD_CONSTANT";
+    case WHAUPFIELD_STRIP_LENGTH: return "WHAUPFIELD_STRIP_LENGTH";
+    case WHAUPFIELD_OUT_OF_RANGE: return "WHAUPFIELD_OUT_OF_RANGE";
+    case WHAUPFIELD_BUFFER_LENGTH: return "WHAUPFIELD_BUFFER_LENGTH";
+    case WHAUPFIELD_FORM: return "WHAUPFIELD_FORM";
+    case WHAUPFIELD_HEAD: return "WHAUPFIELD_HEAD";
+    case WHAUPFIELD_MISPLACED: return "WHAUPFIELD_MISPLACED";
+    case WHAUPFIELD_STALE: return "WHAUPFIELD_STALE";
+    case WHAUPFIELD_AMBIGUOUS: return "WHAUPFIELD_AMBIGUOUS";
+    default: return "not the number of a refusal";
+    }
+}
+
+/* When a call answers with this number: exactly then, if none with a lower number applies. */
+static inline const char *whaupfield_refusal_sentence(unsigned number)
+{
+    switch (number) {
+    case WHAUPFIELD_OK: return "the call is not refused";
+    case WHAUPFIELD_SHAPE:
+        return "n, k or a is not accepted; accepted are k >= 1, n > k, 2 <= a <= 4, a <= n-k, a divides n, n <= 24";
+    case WHAUPFIELD_CONSTANT: return "t is not in 2..255";
+    case WHAUPFIELD_STRIP_LENGTH: return "s is 0 or above 512";
+    case WHAUPFIELD_OUT_OF_RANGE:
+        return "the lost node is not below n, the node list is not k strictly rising numbers below n, "
+               "or the survey's start is above the number of sets";
+    case WHAUPFIELD_BUFFER_LENGTH:
+        return "a lent buffer other than the bundle to read has the wrong length (a plan's: is too short)";
+    case WHAUPFIELD_FORM:
+        return "the bundle's total length, tags or field lengths are not those of the wanted profile and node";
+    case WHAUPFIELD_HEAD: return "the content of the bundle's field 01 or 02 is not what is wanted";
+    case WHAUPFIELD_MISPLACED: return "a strip's place is not the plan's";
+    case WHAUPFIELD_STALE: return "a strip's scenario is not the wanted one";
+    case WHAUPFIELD_AMBIGUOUS:
+        return "some two different data give equal columns on the named nodes, whatever bytes the columns hold";
+    default: return "no refusal has this number";
+    }
+}
+
+/* The ceilings, and the longest buffers that any accepted profile has. */
+#define WHAUPFIELD_MAX_NODES 24
+#define WHAUPFIELD_MAX_ROWS 4
+#define WHAUPFIELD_MAX_STRIP 512
+#define WHAUPFIELD_MAX_PLACES 38
+#define WHAUPFIELD_MAX_COLUMN (WHAUPFIELD_MAX_ROWS * WHAUPFIELD_MAX_STRIP)
+#define WHAUPFIELD_MAX_DATA ((WHAUPFIELD_MAX_NODES - WHAUPFIELD_MAX_ROWS) * WHAUPFIELD_MAX_COLUMN)
+#define WHAUPFIELD_MAX_ARRAY (WHAUPFIELD_MAX_NODES * WHAUPFIELD_MAX_COLUMN)
+#define WHAUPFIELD_MAX_PLAN (2 * WHAUPFIELD_MAX_PLACES)
+#define WHAUPFIELD_MAX_BUNDLE (17 + WHAUPFIELD_MAX_PLACES * (9 + WHAUPFIELD_MAX_STRIP))
+
+/* A profile's numbers, and how they are handed to a call: whaupfield_plan(WHAUPFIELD_PROFILE(p), ..). The macro names p
+ * once for each number. A number that a later version adds to a profile is added in these two places, and a call that
+ * is written so stays as it is. */
+struct whaupfield_profile {
+    size_t n, k, a, t, s;
+};
+
+#define WHAUPFIELD_PROFILE(p) (p).n, (p).k, (p).a, (p).t, (p).s
+
+/* The lengths of a profile's buffers in bytes, and the number of places of its plans. A node list and a survey's set
+ * have k bytes. For a profile that is not accepted they give some number or other; a call refuses such a profile
+ * whatever the lengths are. */
+
+/* Of the data, and of the columns that data are read back from. */
+static inline size_t whaupfield_data_length(struct whaupfield_profile p)
+{
+    return p.k * p.a * p.s;
+}
+
+static inline size_t whaupfield_array_length(struct whaupfield_profile p)
+{
+    return p.n * p.a * p.s;
+}
+
+static inline size_t whaupfield_column_length(struct whaupfield_profile p)
+{
+    return p.a * p.s;
+}
+
+/* The number of places, a-1 + k + max(0, k - (n/a - 1)), the same for every lost node. */
+static inline size_t whaupfield_places(struct whaupfield_profile p)
+{
+    size_t groups = p.a == 0 ? 0 : p.n / p.a;
+    size_t second_strips = p.k + 1 > groups ? p.k + 1 - groups : 0;
+
+    return p.a - 1 + p.k + second_strips;
+}
+
+/* Two bytes a place. */
+static inline size_t whaupfield_plan_length(struct whaupfield_profile p)
+{
+    return 2 * whaupfield_places(p);
+}
+
+static inline size_t whaupfield_bundle_length(struct whaupfield_profile p)
+{
+    return 17 + whaupfield_places(p) * (9 + p.s);
+}
+
 #ifdef __cplusplus
 extern "C" {
 #endif
 
-/* Encode: writes to array the n*a*s bytes of the encoded array of the k*a*s bytes of data; both buffers have exactly
- * these lengths. Value 0. Refused with 1, 2, 3 or 5. */
+/* Encode: writes to array the encoded array of the data; both buffers have exactly their profile's length. Value 0.
+ * Refused with 1, 2, 3 or 5. */
 uint64_t whaupfield_encode(size_t n, size_t k, size_t a, size_t t, size_t s,
                            const uint8_t *data, size_t data_length,
                            uint8_t *array, size_t array_length);
 
 /* Plan: writes to places the places that are read to rebuild the lost node, two bytes each, node first, then row. The
- * buffer may be longer, and bytes past the plan stay; a shorter one is 5; 76 bytes hold any plan. Value: the number
- * of places, a-1 + k + max(0, k - (n/a - 1)), the same for every lost node. Refused with 1 to 5. Other libraries call
- * it the fragments needed. */
+ * buffer may be longer, and bytes past the plan stay; a shorter one is 5; WHAUPFIELD_MAX_PLAN bytes hold any plan.
+ * Value: the number of places. Refused with 1 to 5. Other libraries call it the fragments needed. */
 uint64_t whaupfield_plan(size_t n, size_t k, size_t a, size_t t, size_t s, size_t lost,
                          uint8_t *places, size_t places_length);
 
-/* Write bundle: writes to bundle the bundle for rebuilding the lost node, cut from the n*a*s bytes of a stored array,
- * with this scenario number in field 02 and in every strip's field. The bundle has 17 + P * (9 + s) bytes, P the
- * plan's number of places; both buffers have exactly the length said here. Only the planned places are read, so the
- * lost column may hold anything. Value: the bundle's length. Refused with 1, 2, 3, 4 or 5. */
+/* Write bundle: writes to bundle the bundle for rebuilding the lost node, cut from a stored array, with this scenario
+ * number in field 02 and in every strip's field. Both buffers have exactly their profile's length. Only the planned
+ * places are read, so the lost column may hold anything. Value: the bundle's length. Refused with 1, 2, 3, 4 or 5. */
 uint64_t whaupfield_write_bundle(size_t n, size_t k, size_t a, size_t t, size_t s, size_t lost, uint32_t scenario,
                                  const uint8_t *array, size_t array_length,
                                  uint8_t *bundle, size_t bundle_length);
 
-/* Rebuild: writes to column the a*s bytes of the lost node's column, row 0 first, from a bundle for the wanted
- * profile, node and scenario. The bundle may be any bytes of any length: one that is not in order is 6, 7, 8 or 9,
- * never 5. A buffer for the column that has not a*s bytes is 5. Value 0. Refused with 1 to 9. Other libraries call it
- * reconstruct. */
+/* Rebuild: writes to column the lost node's column, row 0 first, from a bundle for the wanted profile, node and
+ * scenario. The bundle may be any bytes of any length: one that is not in order is 6, 7, 8 or 9, never 5. A buffer of
+ * another length than a column's is 5. Value 0. Refused with 1 to 9. Other libraries call it reconstruct. */
 uint64_t whaupfield_rebuild(size_t n, size_t k, size_t a, size_t t, size_t s, size_t lost, uint32_t scenario,
                             const uint8_t *bundle, size_t bundle_length,
                             uint8_t *column, size_t column_length);
 
-/* Read back: writes to output the k*a*s bytes of data, from the columns of k named nodes. nodes holds their k
- * numbers, one byte each, strictly rising; columns has k*a*s bytes, the nodes' columns joined in the order of the
- * list. If the nodes are not refused with 10, any k*a*s bytes are the columns of exactly one recording's data;
- * whether they are refused depends on the profile and the list alone. Value 0. Refused with 1, 2, 3, 4, 5 or 10; a
- * list of another length than k is 4. Other libraries call it decode. */
+/* Read back: writes to output the data, from the columns of k named nodes. nodes holds their k numbers, one byte each,
+ * strictly rising; columns holds the nodes' columns joined in the order of the list, as many bytes as the data. If the
+ * nodes are not refused with 10, any bytes of that length are the columns of exactly one recording's data; whether they
+ * are refused depends on the profile and the list alone. Value 0. Refused with 1, 2, 3, 4, 5 or 10; a list of another
+ * length than k is 4. Other libraries call it decode. */
 uint64_t whaupfield_read_back(size_t n, size_t k, size_t a, size_t t, size_t s,
                               const uint8_t *nodes, size_t nodes_length,
                               const uint8_t *columns, size_t columns_length,
                               uint8_t *output, size_t output_length);
 
-/* Survey: looks at the sets of k of n nodes in lexicographic order, from the position start on (0 is the first), at most
- * `most` of them, for one that cannot be read back from. WHAUPFIELD_OUTCOME is
- *   WHAUPFIELD_FAILING  one was found; WHAUPFIELD_POSITION is its position, counted from the first set of all, and its k
- *                       node numbers are written to set
+/* Survey: looks at the sets of k of n nodes in lexicographic order, from the position start on (0 is the first), at
+ * most `most` of them, for one that cannot be read back from. WHAUPFIELD_OUTCOME is
+ *   WHAUPFIELD_FAILING  one was found; WHAUPFIELD_POSITION is its position, counted from the first set of all, and its
+ *                       k node numbers are written to set
  *   WHAUPFIELD_DONE     none was found, and no set is left; set stays as it was
  *   WHAUPFIELD_OPEN     none was found, and sets are left: go on at start + WHAUPFIELD_LOOKED; set stays as it was
- * WHAUPFIELD_LOOKED is the number of sets looked at, the failing one counted. s must be accepted but changes
- * nothing. set has k bytes. `most` may be more than are left: SIZE_MAX looks at all. start may be the number of sets: done,
- * 0 looked at. Refused with 1, 2, 3, 4 or 5. */
+ * WHAUPFIELD_LOOKED is the number of sets looked at, the failing one counted. Done says that every set from start on
+ * can be read back from: every set of all if start is 0, or if it was reached from 0 by surveys that were all open,
+ * each gone on with where it stopped. s must be accepted but changes nothing. set has k bytes. `most` may be more than
+ * are left: SIZE_MAX looks at all. start may be the number of sets: done, 0 looked at. Refused with 1, 2, 3, 4 or 5. */
 uint64_t whaupfield_survey(size_t n, size_t k, size_t a, size_t t, size_t s, size_t start, size_t most,
                            uint8_t *set, size_t set_length);
 

@@ -1,7 +1,7 @@
--- The elimination of a matrix of m rows and w columns, column by column: where each column has a pivot it makes the left
--- inverse, and the first column without one gives a vector other than zero that the matrix takes to zero. One kind of row
--- step does all: to each row is added a multiple of one row. The laws hold of matrices that are given only below m and w,
--- so that a program that works in place can cite them.
+-- The elimination of a matrix of m rows and w columns, column by column: where each column has a pivot it makes the
+-- left inverse, and the first column without one gives a vector other than zero that the matrix takes to zero. One kind
+-- of row step does all: to each row is added a multiple of one row. The laws hold of matrices that are given only below
+-- m and w, so that a program that works in place can cite them.
 use mathlib.Core.Path.{_≡_, refl, sym, ap₂, _∙_}
 use mathlib.Core.Logic.{_≢_}
 use Prim.Native.Nat.{ℕ, suc, _≤_, _<_}

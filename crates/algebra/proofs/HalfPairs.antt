@@ -117,7 +117,8 @@ module _ (K : Field) (C : Code K) (s position : ℕ → ℕ)
   -- ---- a base array a, of which x holds what is stored on the named nodes
   module _ (a x : Array K) (word : (i : ℕ) → i < A → Codeword K n point k (a i))
       (stores : (i q : ℕ) → i < A → q < k → x i (s q) ≡ stored K A θ a i (s q)) where
-    -- A base symbol on a named node is what the strips give of it, and a multiple of its partner where that is not named.
+    -- A base symbol on a named node is what the strips give of it, and a multiple of its partner where that is not
+    -- named.
     pub named-symbol : (i q : ℕ) → i < A → q < k
         → a i (s q) ≡ knownAt x i q ⊕ factorOf i q ⊗ a (local q) (across i q)
     unfolding halfFactor known stored

@@ -1,6 +1,6 @@
--- Reading from k named nodes by pairs. Where both strips of a pair are read, they give both base symbols; a strip on the
--- diagonal is its own partner. A half pair is a strip that is read while its partner, on a node that is not named, is not.
--- For a base array a the two equations are
+-- Reading from k named nodes by pairs. Where both strips of a pair are read, they give both base symbols; a strip on
+-- the diagonal is its own partner. A half pair is a strip that is read while its partner, on a node that is not named,
+-- is not. For a base array a the two equations are
 --
 --   a(i, s q)       = known(i,q) + halfFactor(i,q) · a(the partner of row i, node s q)
 --   a(partner of z) = knownPartner(z) + the sum over the strips y of partnerCoefficient(z,y) · a(partner of y)

@@ -1,13 +1,13 @@
 -- Lagrange's weights on lists of node numbers, and what they are computed from.
 --
--- Different nodes       : at most 24 nodes, no two of them equal
+-- Different nodes       : at most maxNodes nodes, no two of them equal
 -- Outside nodes at      : the node `at` is none of the nodes
 -- points nodes i        : the point of the i-th node, 'the field element with that number'
 -- weightsOf nodes at    : the weight at `at` of each of the nodes
 -- differencesOf nodes x : the sum of x and each of the nodes
 -- denominatorOf nodes q : the product of the sums of the q-th node and each other node
 -- denominatorsOf nodes  : the denominator of each of the nodes
--- Divisors ds ms        : at most 24 differences ds and as many denominators ms, none of them 0
+-- Divisors ds ms        : at most maxNodes differences ds and as many denominators ms, none of them 0
 -- weightsFrom ds ms     : for each node the product of all differences, divided by its own difference and denominator
 use mathlib.Core.Path.{_≡_}
 use mathlib.Core.Logic.{_≢_}

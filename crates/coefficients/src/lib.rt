@@ -4,9 +4,11 @@ ghost use mathlib.Core.Path.{_≡_};
 ghost use Prim.Native.Nat.{_≤_, _<_};
 ghost use lib.ListN.{length};
 ghost use Rattle.lists.specs.Listed.{listed};
+ghost use Rattle.document.specs.Profile.{maxNodes};
 ghost use Rattle.coefficients.specs.Weights.{Different, Outside, weightsOf};
 ghost use Rattle.coefficients.specs.Weights.{differencesOf, denominatorOf, denominatorsOf, Divisors, weightsFrom};
 ghost use Rattle.coefficients.specs.Data.{dataDenominators, dataWeights};
+use document::Profile;
 
 // The sum of x and each node.
 fn differences(x: u8, nodes: &[u8], out: &mut [u8])
@@ -22,12 +24,12 @@ fn differences(x: u8, nodes: &[u8], out: &mut [u8])
 
 // The denominator of node q: its own difference, which is 0, counts as 1.
 fn denominator(nodes: &[u8], q: usize) -> u8
-    requires { ⌜ length (now nodes) ≤ 24 ⌝ }
+    requires { ⌜ length (now nodes) ≤ maxNodes ⌝ }
     requires { ⌜ q < length (now nodes) ⌝ }
     ensures { λ r. ⌜ r ≡ denominatorOf (now (nodes .entry)) q ⌝ }
 {
     let k = nodes.len();
-    let mut d = [0u8; 24];
+    let mut d = [0u8; Profile::MAX_NODES];
     differences(nodes[q], nodes, &mut d[..k]);
     d[q] = 1;
     gf256::product_of(&d[..k])
@@ -67,14 +69,14 @@ pub fn weights(nodes: &[u8], denominators: &[u8], at: u8, out: &mut [u8])
     ensures { λ _. ⌜ now (out .exit) ≡ weightsOf (now (nodes .entry)) at ⌝ }
 {
     let k = nodes.len();
-    let mut d = [0u8; 24];
+    let mut d = [0u8; Profile::MAX_NODES];
     differences(at, nodes, &mut d[..k]);
     quotients(&d[..k], denominators, out);
 }
 
 // The numbers of the first nodes: the data nodes are the first k of them.
-fn first_nodes() -> [u8; 24]
-    ensures { λ r. ⌜ r ≡ listed 24 (λ q. q) ⌝ }
+fn first_nodes() -> [u8; Profile::MAX_NODES]
+    ensures { λ r. ⌜ r ≡ listed maxNodes (λ q. q) ⌝ }
 {
     [
         0,
@@ -106,7 +108,7 @@ fn first_nodes() -> [u8; 24]
 
 // The denominators of the data nodes' weights, for as many data nodes as `out` has bytes.
 pub fn data_denominators(out: &mut [u8])
-    requires { ⌜ length (now out) ≤ 24 ⌝ }
+    requires { ⌜ length (now out) ≤ maxNodes ⌝ }
     ensures { λ _. ⌜ now (out .exit) ≡ dataDenominators (length (now (out .entry))) ⌝ }
 {
     let k = out.len();
@@ -116,7 +118,7 @@ pub fn data_denominators(out: &mut [u8])
 
 // The weights of the data nodes at a parity node, for as many data nodes as `out` has bytes.
 pub fn parity_weights(denominators: &[u8], j: usize, out: &mut [u8])
-    requires { ⌜ (length (now out) ≤ 24) × (length (now out) ≤ j) × (j < 24) ⌝ }
+    requires { ⌜ (length (now out) ≤ maxNodes) × (length (now out) ≤ j) × (j < maxNodes) ⌝ }
     requires { ⌜ now denominators ≡ dataDenominators (length (now out)) ⌝ }
     ensures { λ _. ⌜ now (out .exit) ≡ dataWeights (length (now (out .entry))) j ⌝ }
 {

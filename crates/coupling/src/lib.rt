@@ -5,7 +5,7 @@ ghost use lib.ListN.{length};
 ghost use Rattle.algebra.specs.Coupling.{pair};
 ghost use Rattle.strips.specs.Strips.{addedScaled};
 ghost use Rattle.document.specs.ByteField.{bytes, number};
-ghost use Rattle.document.specs.Profile.{Accepted};
+ghost use Rattle.document.specs.Profile.{maxStrip, Accepted};
 ghost use Rattle.document.specs.Encoding.{factorAt, coupled};
 ghost use Rattle.coupling.specs.Pairs.{coupledStrips, pairCoupled, multipleOf, uncoupledStrip};
 use document::Profile;
@@ -14,7 +14,7 @@ use document::Row;
 // Couples the upper strip of a pair with the lower one, which lies before it in memory. Both are copied out first, so
 // that each loop reads the partner from another slice than the one it writes; the upper strip's copy is used up.
 fn couple_pair(x: &mut [u8], upper: usize, lower: usize, s: usize, t: u8)
-    requires { ⌜ (s ≤ 512) × (lower + s ≤ upper) × (upper + s ≤ length (now x)) ⌝ }
+    requires { ⌜ (s ≤ maxStrip) × (lower + s ≤ upper) × (upper + s ≤ length (now x)) ⌝ }
     ensures { λ _. ⌜ now (x .exit) ≡ coupledStrips t upper lower s (now (x .entry)) ⌝ }
 {
     let mut u = [0u8; Profile::MAX_STRIP];
@@ -74,7 +74,7 @@ pub fn determinant(p: Profile, i: Row, l: usize) -> u8
 // Adds c times a strip. Half of the factors are 1, which needs no product. For another small one the strip is copied,
 // since `add_multiple` uses its strip up; from 25 on the copy can cost more than it saves.
 pub fn add_times(x: &mut [u8], strip: &[u8], c: u8)
-    requires { ⌜ (length (now strip) ≡ length (now x)) × (length (now x) ≤ 512) ⌝ }
+    requires { ⌜ (length (now strip) ≡ length (now x)) × (length (now x) ≤ maxStrip) ⌝ }
     ensures { λ _. ⌜ now (x .exit) ≡ addedScaled c 0 (now (strip .entry)) (now (x .entry)) ⌝ }
 {
     if c == 1 {
@@ -107,7 +107,7 @@ pub fn put_multiple(out: &mut [u8], strip: &[u8], d: u8)
 // A base strip from the two stored strips of its pair: the sum of its own and the partner's times f, divided by the
 // determinant of the pair. d is the determinant's inverse.
 pub fn uncouple(out: &mut [u8], own: &[u8], partner: &[u8], f: u8, d: u8)
-    requires { ⌜ (length (now out) ≤ 512) × (length (now own) ≡ length (now out))
+    requires { ⌜ (length (now out) ≤ maxStrip) × (length (now own) ≡ length (now out))
         × (length (now partner) ≡ length (now out)) ⌝ }
     ensures { λ _. ⌜ now (out .exit) ≡ uncoupledStrip f d (now (own .entry)) (now (partner .entry)) ⌝ }
 {

@@ -30,7 +30,18 @@ use Rattle.demands.specs.Tables.{
   Numbered,
   Demand1Of,
 }
-use Rattle.demands.proofs.Tables.{Holds, no-line, and-line, held, NoneHolds, FirstOrNone, first-or-none}
+use Rattle.demands.proofs.Tables.{
+  Holds,
+  no-line,
+  and-line,
+  held,
+  NoneHolds,
+  none-holds,
+  none-applies,
+  unheld,
+  FirstOrNone,
+  first-or-none,
+}
 
 -- ---- a call, whatever it answers
 module _ {X : Type 0} (refuse : Refusal → X) (x : X) where
@@ -86,12 +97,6 @@ module _ {X : Type 0} (before : X) (v : ℕ) (after : X) {tests : List Test} {ta
           let told : Done v ≡ Refused r = sym (ap (λ o. o .0) (passed f)) ∙ e in
           absurd (let z : _≡_ {A = ℕ} 0 1 = cc in omega arith)
 
-  refuses : RefusesExactly table before outcome
-  refuses = record {
-    given = λ r. (is-first r, λ first. ap (λ o. o .0) (stopped first));
-    kept = λ r e. ap (λ o. o .1) (stopped (is-first r e));
-  }
-
   unrefused : answerNumber (outcome .0) ≡ 0 → Unrefused table outcome (Done v, after)
   unfolding answerNumber
   unrefused e = go (first-or-none decides)
@@ -99,6 +104,17 @@ module _ {X : Type 0} (before : X) (v : ℕ) (after : X) {tests : List Test} {ta
       go : FirstOrNone table → Unrefused table outcome (Done v, after)
       go (inl (r, first)) = absurd (never-zero r (sym (ap (λ o. answerNumber (o .0)) (stopped first)) ∙ e))
       go (inr f) = record { refuted = held f; is-done = passed f }
+
+  refuses : RefusesExactly table before outcome
+  unfolding answerNumber
+  refuses = record {
+    given = λ r. (is-first r, λ first. ap (λ o. o .0) (stopped first));
+    answered = (
+      (λ f. ap (λ o. answerNumber (o .0)) (passed (none-holds f))),
+      λ e. none-applies (unheld table (λ r h. unrefused e .refuted h)),
+    );
+    kept = λ r e. ap (λ o. o .1) (stopped (is-first r e));
+  }
 
   pub call-of : {lines : List (ℕ × ℕ)} → Numbered table lines
       → CallOf tests table lines before (tried tests (λ r. (Refused r, before)) (Done v, after)) (Done v, after)

@@ -35,11 +35,10 @@ use Rattle.document.proofs.ByteField.{points-distinct}
 use Rattle.document.proofs.Bounds.{partner-within}
 use Rattle.document.proofs.Rows.{row-word, row-data}
 use Rattle.document.proofs.Arrays.{
-  laid-length,
-  laid-small,
   laid-byte,
   laid-bytes,
   laid-ext,
+  encoded-stored,
   coupled-diagonal,
   coupled-upper,
   coupled-lower,
@@ -47,7 +46,14 @@ use Rattle.document.proofs.Arrays.{
 }
 use Rattle.document.proofs.Decides.{decides-eq, decides-both, decides-not, decided}
 use Rattle.demands.specs.Tables.{Decided, none, line}
-use Rattle.demands.specs.Encoding.{encodeSentences, Demand1Encode, DocumentArray, OneArray, Demand2Encode}
+use Rattle.demands.specs.Encoding.{
+  encodeSentences,
+  Demand1Encode,
+  DocumentArray,
+  OneArray,
+  ArrayIsEncoded,
+  Demand2Encode,
+}
 use Rattle.demands.proofs.Tables.{by-name}
 use Rattle.demands.proofs.Profile.{Granted, CallFor, call-for}
 
@@ -90,7 +96,7 @@ module _ (p : Profile) where
       data-size = size;
       base = baseAt p d;
       coefficients = λ b i. row-word p d b i .poly .coefficients;
-      stored = record { size = laid-length p n (storedAt d); bytes-only = laid-small p n (storedAt d) };
+      stored = encoded-stored p d;
       degree = λ b i l r. row-word p d b i .poly .degree;
       values = λ b i j l r h. row-word p d b i .at j h ∙ row-word p d b i .poly .value (byte j);
       given = λ b i j l r h. row-data p d b i acc j h;
@@ -150,6 +156,10 @@ module _ (p : Profile) where
 -- Two such arrays are one.
 pub one-array : OneArray
 one-array p acc d x y X Y = encoded-only p acc d x X ∙ sym (encoded-only p acc d y Y)
+
+-- It is the encoded array.
+pub array-is-encoded : ArrayIsEncoded
+array-is-encoded p acc d x size = (encoded-only p acc d x, λ same. rw same (encoded-is p acc d size))
 
 -- Encoding writes it.
 pub demand-2-encode : Demand2Encode

@@ -13,4 +13,6 @@ pub mod Results
 pub mod Survey
 pub mod Program
 pub mod Demand1
+pub mod Demand2
 pub mod Demand3
+pub mod Demands

@@ -14,7 +14,7 @@ use Rattle.document.specs.Profile.{profileOf}
 use Rattle.document.specs.Plan.{walkOf, planned, planBytes, planTests, planWith, planOf}
 use Rattle.document.proofs.Decides.{decides-lt, decides-not, decided}
 use Rattle.document.proofs.Bounds.{A>0}
-use Rattle.document.proofs.Walks.{Sound, complete-sound, walk-complete}
+use Rattle.document.proofs.Walks.{Sound, complete-sound, walk-complete, planned-over}
 use Rattle.document.proofs.Price.{over-price}
 use Rattle.document.proofs.Planned.{over-distinct, over-off-lost}
 use Rattle.document.proofs.Chosen.{planned-within}
@@ -58,16 +58,16 @@ demand-3-places p acc f h w complete =
     }
 
 pub demand-3-walk : Demand3Walk
-unfolding planned
-demand-3-walk p f = (walk-complete p f, refl)
+demand-3-walk p f = (walk-complete p f, planned-over p f)
 
 pub demand-3-plan : Demand3Plan
-unfolding planSentences planned answerValue
+unfolding planSentences answerValue
 demand-3-plan p f x e = record {
   holds = ap (λ o. o .1) (granted .is-done);
   number = ap (λ o. answerValue (o .0)) (granted .is-done);
-  places = demand-3-places (profileOf p) (granted .accepted) node below (walkOf (profileOf p) node)
-      (walk-complete (profileOf p) node);
+  places = rw planned-over
+      (demand-3-places (profileOf p) (granted .accepted) node below (walkOf (profileOf p) node)
+      (walk-complete (profileOf p) node));
 }
   where
     node : Node

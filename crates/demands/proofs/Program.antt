@@ -24,12 +24,12 @@ use Rattle.demands.proofs.Rebuild.{demand-1-rebuild}
 column-out : (o : Answer × List ℕ) → answerNumber (o .0) ≡ 0 → outputOf o ≡ o .1
 unfolding outputOf answerNumber
 column-out (Done w, x) e = refl
-column-out (Refused q, x) e = absurd (never-zero q e)
+column-out (Refused r, x) e = absurd (never-zero r e)
 
-line-out : (o : Answer × List ℕ) (q : Refusal) → o .0 ≡ Refused q → outputOf o ≡ refusalLine q
+line-out : (o : Answer × List ℕ) (r : Refusal) → o .0 ≡ Refused r → outputOf o ≡ refusalLine r
 unfolding outputOf
-line-out (Done w, x) q e = absurd (let z : _≡_ {A = ℕ} 0 1 = cc in omega arith)
-line-out (Refused s, x) q e = let same : s ≡ q = cc in ap refusalLine same
+line-out (Done w, x) r e = absurd (let z : _≡_ {A = ℕ} 0 1 = cc in omega arith)
+line-out (Refused s, x) r e = let same : s ≡ r = cc in ap refusalLine same
 
 -- ---- the answer is not 5
 -- the refusal r has another number than m
@@ -47,6 +47,6 @@ pub demand-1-program : Demand1Program
 unfolding programOf numberOf
 demand-1-program input = record {
   column = column-out _;
-  line = λ q first. line-out _ q (demand-1-rebuild _ _ _ _ _ .refuses .given q .1 first);
+  line = λ r first. line-out _ r (demand-1-rebuild _ _ _ _ _ .refuses .given r .1 first);
   never-five = λ first. held (others-alone input) (first-holds first);
 }

@@ -1,6 +1,6 @@
 -- Reading back: demand 1, and demand 2, the rest: reading back that is done returns the only data with the columns, and
 -- a request in due form is refused exactly when some two different data have equal columns.
-use mathlib.Core.Path.{_≡_, refl, sym, _∙_}
+use mathlib.Core.Path.{_≡_, refl, sym, ap, _∙_}
 use mathlib.Core.Logic.{_↔_}
 use mathlib.Core.Bool.{false, _&&_}
 use mathlib.Core.List.{List, [], _∷_}
@@ -15,14 +15,48 @@ use Rattle.document.specs.declared.Refusal.the-variants.{OutOfRange, BufferLeng
 use Rattle.document.specs.declared.Answer.the-variants.{Done, Refused}
 use Rattle.document.specs.Refusals.{numberOf, indexOf, answerNumber, answerValue, Decides}
 use Rattle.document.specs.Profile.{Accepted, profileOf}
-use Rattle.document.specs.Reading.{TwoData, ambiguous, dataFrom, listAccepted, readTests, readWith, readOf}
-use Rattle.document.proofs.Decides.{decides-eq, decides-both, decides-not, decides-false, decided}
+use Rattle.document.specs.Encoding.{encoded}
+use Rattle.document.specs.Reading.{joinedColumns, ambiguous, dataFrom, listAccepted, readTests, readWith, readOf}
+use Rattle.document.proofs.Decides.{decides-eq, decides-both, decides-not, decides-same, decides-false, decided}
 use Rattle.document.proofs.NodeLists.{decides-list-accepted, decides-ambiguous}
-use Rattle.document.proofs.Reading.{read-data, read-columns, read-only}
+use Rattle.document.proofs.Reading.{TwoEncoded, read-data, read-columns, read-only}
 use Rattle.demands.specs.Tables.{Decided, none, line}
-use Rattle.demands.specs.Reading.{readSentences, Demand1Read, InDueForm, OnlyData, Demand2Reading}
+use Rattle.demands.specs.Reading.{TwoData, readSentences, Demand1Read, InDueForm, OnlyData, Demand2Reading}
+use Rattle.demands.proofs.Encoding.{encoded-is, encoded-only}
 use Rattle.demands.proofs.Tables.{by-name, in-order, line-by-line}
 use Rattle.demands.proofs.Profile.{Granted, CallFor, call-for, call-answer}
+
+-- ---- the sentence of 10, and the same of encoded arrays
+module _ (p : Profile) (acc : Accepted p) (nodes : List ℕ) where
+  two-encoded : TwoData p nodes → TwoEncoded p nodes
+  two-encoded two = record {
+    first = two .first;
+    second = two .second;
+    first-data = two .first-data;
+    second-data = two .second-data;
+    differ = two .differ;
+    alike = ap (joinedColumns p nodes) (sym (encoded-only p acc _ _ (two .first-gives)))
+        ∙ two .alike
+        ∙ ap (joinedColumns p nodes) (encoded-only p acc _ _ (two .second-gives));
+  }
+
+  encoded-two : TwoEncoded p nodes → TwoData p nodes
+  encoded-two two = record {
+    first = two .first;
+    second = two .second;
+    first-data = two .first-data;
+    second-data = two .second-data;
+    differ = two .differ;
+    first-array = encoded p (two .first);
+    second-array = encoded p (two .second);
+    first-gives = encoded-is p acc (two .first) (two .first-data .size);
+    second-gives = encoded-is p acc (two .second) (two .second-data .size);
+    alike = two .alike;
+  }
+
+  -- so the test of 10 decides it
+  pub decides-two : Rising (p .n) (p .k) nodes → Decides (ambiguous p nodes) (TwoData p nodes)
+  decides-two rises = decides-same _ (decides-ambiguous p acc nodes rises) encoded-two two-encoded
 
 -- ---- the call
 module _ (p : Profile) (nodes x y : List ℕ) where
@@ -42,7 +76,7 @@ module _ (p : Profile) (nodes x y : List ℕ) where
       line refl (decides-not _ decides-rising)
       (λ list.
       line refl (decides-not _ decides-sizes)
-      (λ sizes. line refl (decides-ambiguous p acc nodes (decided _ decides-rising list)) (λ two. none)))
+      (λ sizes. line refl (decides-two p acc nodes (decided _ decides-rising list)) (λ two. none)))
 
 module _ (p : Numbers) (nodes x y : List ℕ) where
   read-call : CallFor p (λ p. readTests p nodes x y) (λ p. readSentences p nodes x y) ((4, 0) ∷ (5, 0) ∷ (10, 0) ∷ []) y
@@ -58,8 +92,8 @@ module _ (p : Numbers) (nodes x y : List ℕ) where
   -- ---- a request in due form
   module _ (form : InDueForm p nodes x y) where
     -- the test of refusal 10 decides, the only one left
-    decides-two : Decides (ambiguous (profileOf p) nodes) (TwoData (profileOf p) nodes)
-    decides-two = decides-ambiguous (profileOf p) (form .profile) nodes (form .list)
+    decides-ten : Decides (ambiguous (profileOf p) nodes) (TwoData (profileOf p) nodes)
+    decides-ten = decides-two (profileOf p) (form .profile) nodes (form .list)
 
     two-refused : TwoData (profileOf p) nodes → readOf p nodes x y ≡ (Refused Ambiguous, y)
     unfolding readSentences
@@ -73,7 +107,7 @@ module _ (p : Numbers) (nodes x y : List ℕ) where
     pub read-refused : (answerNumber (readOf p nodes x y .0) ≡ 10) ↔ TwoData (profileOf p) nodes
     unfolding answerNumber numberOf
     read-refused = (
-      (λ e. decided _ decides-two (λ other. omega (arith, rw (else-done other) at e))),
+      (λ e. decided _ decides-ten (λ other. omega (arith, rw (else-done other) at e))),
       λ two. rw (two-refused two),
     )
 
@@ -110,14 +144,17 @@ module _ (p : Numbers) (nodes x y : List ℕ) where
 
     -- so no two data have equal columns, and those read back are the only ones
     clear : ambiguous (profileOf p) nodes ≡ false
-    clear = decides-false _ (decides-two due-form) (read-answered due-form .0 e)
+    clear = decides-false _ (decides-ten due-form) (read-answered due-form .0 e)
 
     only-data : ((e : ℕ) → e < length x → getD x e 0 < 256)
         → OnlyData (profileOf p) nodes x (dataFrom (profileOf p) nodes x)
     only-data small = record {
       are-data = read-data (profileOf p) nodes x;
+      array = encoded (profileOf p) (dataFrom (profileOf p) nodes x);
+      gives = encoded-is (profileOf p) acc (dataFrom (profileOf p) nodes x) (read-data (profileOf p) nodes x .size);
       columns = read-columns (profileOf p) acc nodes (due-form .list) clear x (due-form .columns) small;
-      only = λ c C same. read-only (profileOf p) acc nodes (due-form .list) clear x c C same;
+      only = λ c other C gives same. read-only (profileOf p) acc nodes (due-form .list) clear x c C
+          (ap (joinedColumns (profileOf p) nodes) (sym (encoded-only (profileOf p) acc c other gives)) ∙ same);
     }
 
 -- the answer, by the tests alone, which look at lengths

@@ -3,7 +3,7 @@ use mathlib.Core.Path.{_≡_, refl, sym, ap, _∙_}
 use mathlib.Core.List.{List, _∷_, _++_}
 use Prim.Native.Nat.{ℕ, _+_, _*_, _≤_, _<_}
 use native.Mathlib.Omega.{arith}
-use lib.ListN.{length, getD}
+use lib.ListN.{length, getD, drop}
 use Rattle.lists.specs.Each.{Bytes}
 use Rattle.lists.specs.Listed.{listed}
 use Rattle.lists.proofs.Slice.{slice-at, slice-length}
@@ -17,16 +17,17 @@ use Rattle.document.specs.declared.Answer.{Answer}
 use Rattle.document.specs.declared.Answer.the-variants.{Done}
 use Rattle.document.specs.Refusals.{numberOf, indexOf, answerNumber, answerValue}
 use Rattle.document.specs.Profile.{Accepted, profileOf}
+use Rattle.document.specs.Encoding.{columnIn}
 use Rattle.document.specs.Plan.{walkOf, planned}
 use Rattle.document.specs.Message.{recordingBytes, stripFieldLength, stripIn, stripFieldStart}
 use Rattle.document.specs.Bundle.{lostContent, lostContentLength, bundleTests, bundleStrip}
 use Rattle.document.specs.Rebuild.{rebuiltOf, firstStrip, rebuildTests, rebuildWith, rebuildOf}
 use Rattle.document.proofs.Decides.{decides-lt, decides-eq, decides-not, decided}
 use Rattle.document.proofs.Bounds.{room}
-use Rattle.document.proofs.Walks.{Sound, walk-sound}
+use Rattle.document.proofs.Walks.{Sound, walk-sound, planned-over}
 use Rattle.demands.specs.Tables.{Decided, line}
-use Rattle.demands.specs.Strips.{EncodedArray, HasStrips, columnIn}
-use Rattle.demands.specs.Bundle.{bundleSentences}
+use Rattle.demands.specs.Strips.{EncodedArray, HasStrips}
+use Rattle.demands.specs.Bundle.{bundleSentences, CutFrom}
 use Rattle.demands.specs.Rebuild.{
   rebuildSentences,
   Demand1Rebuild,
@@ -47,7 +48,7 @@ use Rattle.demands.proofs.Tables.{by-name, NoneHolds, line-by-line}
 use Rattle.demands.proofs.Profile.{Granted, CallFor, call-for, call-answer}
 use Rattle.demands.proofs.Strips.{same-rebuilt, column-of, bundle-gives, some-fits}
 use Rattle.demands.proofs.Message.{message-decided, message-numbered, AsWanted, wanted-none, refuted-wanted}
-use Rattle.demands.proofs.Whole.{head-fixes}
+use Rattle.demands.proofs.Whole.{head-fixes, same-recording}
 use Rattle.demands.proofs.Bundle.{
   cut-is,
   cut-accepted,
@@ -131,27 +132,31 @@ module _ (p : Numbers) (f : ℕ) (r : Recording) (b y : List ℕ) where
     column-done : (x : List ℕ) → EncodedArray profile x
         → HasStrips profile (planned profile lost) x (bundleStrip profile b)
         → rebuildOf p f r b y .1 ≡ columnIn profile x f
-    unfolding rebuiltOf planned
+    unfolding rebuiltOf
     column-done x E has =
         ap (λ o. o .1) (granted .is-done)
-        ∙ column-of profile acc lost below (walkOf profile lost) sound x E (bundleStrip profile b) has _
-        (bundle-gives profile acc lost below (walkOf profile lost) sound b)
+        ∙ rw planned-over
+        (column-of profile acc lost below (walkOf profile lost) sound x E (bundleStrip profile b)
+        (rw planned-over at has) _ (bundle-gives profile acc lost below (walkOf profile lost) sound b))
 
     -- and the same from another bundle with these strips
     column-same : (c : List ℕ) → ((i : ℕ) → i < P → bundleStrip profile b i ≡ bundleStrip profile c i)
         → rebuilt profile ≡ rebuiltOf profile lost c (firstStrip profile) (stripFieldLength (p .s))
-    unfolding rebuiltOf planned
+    unfolding rebuiltOf
     column-same c =
-        same-rebuilt profile acc lost below (walkOf profile lost) sound _ _ (bundleStrip profile b)
+        rw planned-over
+        (same-rebuilt profile acc lost below (walkOf profile lost) sound _ _ (bundleStrip profile b)
         (bundleStrip profile c)
         (bundle-gives profile acc lost below (walkOf profile lost) sound b)
-        (bundle-gives profile acc lost below (walkOf profile lost) sound c)
+        (bundle-gives profile acc lost below (walkOf profile lost) sound c))
 
     rebuilt-column : Bytes b → RebuiltColumn p f r b y
-    unfolding answerValue planned
+    unfolding answerValue
     rebuilt-column small = record {
       value = ap (λ o. answerValue (o .0)) (granted .is-done);
-      some = some-fits profile acc lost below (walkOf profile lost) sound (bundleStrip profile b) (strips-whole small);
+      some = rw planned-over
+          (some-fits profile acc lost below (walkOf profile lost) sound (bundleStrip profile b)
+          (rw planned-over at (strips-whole small)));
       column = column-done;
     }
 
@@ -167,9 +172,9 @@ module _ (p : Numbers) (f : ℕ) where
 
   -- ---- two rebuilds
   pub same-strips : SameStrips p f
-  same-strips r u b c y z d e same =
-      ap (λ o. o .1) (granted p f r b y d .is-done) ∙ column-same p f r b y d c same
-      ∙ sym (ap (λ o. o .1) (granted p f u c z e .is-done))
+  same-strips r₁ r₂ b₁ b₂ y₁ y₂ e₁ e₂ same =
+      ap (λ o. o .1) (granted p f r₁ b₁ y₁ e₁ .is-done) ∙ column-same p f r₁ b₁ y₁ e₁ b₂ same
+      ∙ sym (ap (λ o. o .1) (granted p f r₂ b₂ y₂ e₂ .is-done))
 
   pub same-answer : SameAnswer p f
   unfolding rebuildOf rebuildWith rebuildTests
@@ -187,29 +192,40 @@ module _ (p : Numbers) (f : ℕ) where
       ap (λ (o : Answer × List ℕ). answerNumber (o .0))
       (rebuild-call p f r b y .through (cut-accepted p f x r b cut) (search line-by-line))
 
-  pub same-column : SameColumn p f
-  same-column x y alike r u b c X Y v w d e D E =
-      same-strips v w b c d e D E (λ i l. sym (cut-strips p f x r b X i l) ∙ alike i l ∙ cut-strips p f y u c Y i l)
-
   pub same-bundle : SameBundle p f
-  same-bundle x y alike r b c X Y =
-      cut-is p f x r b X ∙ bundle-ext wanted node r x y alike ∙ sym (cut-is p f y r c Y)
+  same-bundle x₁ x₂ alike r b₁ b₂ cut₁ cut₂ =
+      cut-is p f x₁ r b₁ cut₁ ∙ bundle-ext wanted node r x₁ x₂ alike ∙ sym (cut-is p f x₂ r b₂ cut₂)
 
   pub cut-column : CutColumn p f
-  cut-column x r u b y cut d z Z alike =
-      column-done p f u b y d z Z (λ i l. sym (alike i l) ∙ cut-strips p f x r b cut i l)
+  cut-column x₁ recording r b y cut e x₂ E alike =
+      column-done p f r b y e x₂ E (λ i l. sym (alike i l) ∙ cut-strips p f x₁ recording b cut i l)
 
   pub cut-rebuilds : CutRebuilds p f
-  cut-rebuilds x r u b y cut E d = cut-column x r u b y cut d x E (λ i l. refl)
+  cut-rebuilds x recording r b y cut E e = cut-column x recording r b y cut e x E (λ i l. refl)
 
   pub cut-for-wanted : CutForWanted p f
   unfolding lostContent recordingBytes fourBytes
-  cut-for-wanted q g x r u b y cut e =
-      let H = cut-wanted q g x r b cut .is-headed in
-      let K = is-wanted p f u b y e .is-headed in (
-        head-fixes q p (cut-accepted q g x r b cut .short) (acc p f u b y e .short) H K,
+  cut-for-wanted numbers node x recording r b y cut e =
+      let H = cut-wanted numbers node x recording b cut .is-headed in
+      let K = is-wanted p f r b y e .is-headed in (
+        head-fixes numbers p (cut-accepted numbers node x recording b cut .short) (acc p f r b y e .short) H K,
         ap (λ (v : List ℕ). getD v 0 0) (sym (H .field-02) ∙ K .field-02),
+        λ small short. same-recording recording r small short (ap (drop 1) (sym (H .field-02) ∙ K .field-02)),
       )
+
+  -- so its strips are those at the planned places
+  strips-of : (numbers : Numbers) (lost : ℕ) (x : List ℕ) (recording r : Recording) (b y : List ℕ)
+      → CutFrom numbers lost x recording b → NotRefused p f r b y
+      → HasStrips wanted (planned wanted node) x (bundleStrip wanted b)
+  strips-of numbers lost x recording r b y cut e =
+      let same = cut-for-wanted numbers lost x recording r b y cut e in
+      cut-strips p f x recording b (rw (same .0, same .1) at cut)
+
+  pub same-column : SameColumn p f
+  same-column x₁ x₂ alike numbers₁ numbers₂ node₁ node₂ recording₁ recording₂ b₁ b₂ cut₁ cut₂ r₁ r₂ y₁ y₂ e₁ e₂ =
+      same-strips r₁ r₂ b₁ b₂ y₁ y₂ e₁ e₂
+      (λ i l. sym (strips-of numbers₁ node₁ x₁ recording₁ r₁ b₁ y₁ cut₁ e₁ i l) ∙ alike i l
+      ∙ strips-of numbers₂ node₂ x₂ recording₂ r₂ b₂ y₂ cut₂ e₂ i l)
 
   pub whole-bundle : WholeBundle p f
   whole-bundle r b y x e size has =

@@ -5,7 +5,8 @@ use mathlib.Core.Bool.{false≢true}
 use mathlib.Core.List.{List}
 use Prim.Native.Nat.{ℕ, _+_, _-_, _≤_, _<_}
 use native.Mathlib.Omega.{arith}
-use Rattle.ksets.specs.Sets.{sets}
+use Rattle.ksets.specs.Sets.{sets, setAt}
+use Rattle.ksets.proofs.Ranked.{set-rising}
 use Rattle.document.specs.declared.Profile.{Profile}
 use Rattle.document.specs.declared.Surveyed.the-variants.{Done, Open}
 use Rattle.document.specs.Profile.{Accepted}
@@ -15,14 +16,19 @@ use Rattle.document.proofs.Surveys.{
   first-found,
   first-early,
   first-late,
-  decides-fails,
   failingAt,
   result-failing,
   result-done,
   result-open,
   by-result,
 }
-use Rattle.demands.specs.Survey.{NoneFails, Tells, failing, done, left-open, joinedOutcome}
+use Rattle.demands.specs.Survey.{NoneFails, Tells, failing, done, left-open, joinedOutcome, TestOfFailing}
+use Rattle.demands.proofs.Reading.{decides-two}
+
+-- the test of a set decides whether it fails
+pub set-decided : TestOfFailing
+unfolding failsAt
+set-decided p acc pos h = decides-two p acc (setAt 0 (p .n) (p .k) pos) (set-rising (p .n) (p .k) pos h)
 
 -- ---- what a result says
 module _ (p : Profile) (acc : Accepted p) (start most : ℕ) (x : List ℕ) (within : start ≤ sets (p .n) (p .k)) where
@@ -42,14 +48,14 @@ module _ (p : Profile) (acc : Accepted p) (start most : ℕ) (x : List ℕ) (wit
   none-before : (to : ℕ) → to ≤ sets n k → to ≤ foundFrom p start most → NoneFails p start to
   none-before to inside early pos low high fails =
       false≢true
-      (sym (is-first .before pos low (omega arith)) ∙ decides-fails p acc pos (omega arith) .1 fails)
+      (sym (is-first .before pos low (omega arith)) ∙ set-decided p acc pos (omega arith) .1 fails)
 
   pub result-tells : Tells p start most x (resultOf p start most x)
   result-tells =
       by-result p start most x (Tells p start most x)
       (λ h.
       let below : found < sets n k = omega arith in
-      failing (is-first .low) below (decides-fails p acc found below .0 (is-first .holds h))
+      failing (is-first .low) below (set-decided p acc found below .0 (is-first .holds h))
       (none-before found (omega arith) (omega arith)) (omega (arith, is-first .low))
       (omega (arith, is-first .low)))
       (λ h e. done (none-before (sets n k) (omega arith) (omega arith)) e (omega arith))

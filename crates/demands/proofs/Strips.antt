@@ -16,7 +16,7 @@ use Rattle.document.specs.declared.Place.{Place}
 use Rattle.document.specs.Profile.{Accepted}
 use Rattle.document.specs.Places.{place, placeAt}
 use Rattle.document.specs.ByteField.{Byte, byte, number}
-use Rattle.document.specs.Encoding.{byteAt, columnOf, Stored, encoded, stripOf}
+use Rattle.document.specs.Encoding.{byteAt, stripOf, columnIn, columnOf, Data, Stored, encoded}
 use Rattle.document.specs.Plan.{Walk, chosenOver, planOver}
 use Rattle.document.specs.Message.{stripFieldLength}
 use Rattle.document.specs.Bundle.{bundleStrip}
@@ -35,7 +35,7 @@ use Rattle.document.proofs.Columns.{
   given-strip,
 }
 use Rattle.demands.specs.Encoding.{DocumentArray}
-use Rattle.demands.specs.Strips.{EncodedArray, HasStrips, columnIn, Fits, OneColumn}
+use Rattle.demands.specs.Strips.{EncodedArray, HasStrips, Fits, OneColumn}
 use Rattle.demands.proofs.Encoding.{encoded-is, encoded-only}
 
 module _ (p : Profile) (acc : Accepted p) (f : Node) (h : f .0 < p .n) (w : Walk)
@@ -122,7 +122,7 @@ module _ (p : Profile) (acc : Accepted p) (f : Node) (h : f .0 < p .n) (w : Walk
     unfolding given
     given-at i b r l = ap (λ (m : ℕ). byte (getD (v m) b 0)) (position p acc f h w sound i r)
 
-    found : (d : List ℕ) × (length d ≡ k * A * S) × Alike p (f .0) s (byteAt p (encoded p d)) given
+    found : (d : List ℕ) × Data p d × Alike p (f .0) s (byteAt p (encoded p d)) given
     found =
         some-array p acc (f .0) h s (choice p acc f h w sound) (outside p acc f h w sound)
         (shape p acc f h w sound) given
@@ -132,7 +132,7 @@ module _ (p : Profile) (acc : Accepted p) (f : Node) (h : f .0 < p .n) (w : Walk
 
     is-array : DocumentArray p (found .0) array
     unfolding array
-    is-array = encoded-is p acc (found .0) (found .1)
+    is-array = encoded-is p acc (found .0) (found .1 .size)
 
     has : HasStrips p plan array v
     unfolding array
@@ -149,7 +149,7 @@ module _ (p : Profile) (acc : Accepted p) (f : Node) (h : f .0 < p .n) (w : Walk
             ∙ number-byte (getD (v i) b 0) (ok i r .1 b (omega (arith, ok i r .0)))
 
     pub some-fits : (x : List ℕ) × EncodedArray p x × HasStrips p plan x v
-    some-fits = (array, record { given = found .0; gives = is-array }, has)
+    some-fits = (array, record { given = found .0; are-data = found .1; gives = is-array }, has)
 
 -- ---- for every complete walk
 pub fits : Fits

@@ -20,15 +20,15 @@ use Rattle.document.specs.declared.Answer.{Answer}
 use Rattle.document.specs.declared.Answer.the-variants as answers
 use Rattle.document.specs.Refusals.{numberOf, indexOf, answerNumber, answerValue, tried}
 use Rattle.document.specs.Profile.{Accepted, profileTests, profileOf, onAccepted}
-use Rattle.document.specs.Reading.{TwoData}
 use Rattle.document.specs.Survey.{resultOf, surveyTests, surveyWith, surveyOf, surveyAnswer}
 use Rattle.document.proofs.Decides.{decides-le, decides-lt, decides-eq, decides-not, decided}
 use Rattle.document.proofs.Accepts.{one-list, on-accepted-map, on-accepted-same}
 use Rattle.document.proofs.Tried.{tried-map}
-use Rattle.document.proofs.Surveys.{decides-fails, by-result}
+use Rattle.document.proofs.Surveys.{by-result}
 use Rattle.document.proofs.Refusals.{never-zero}
 use Rattle.demands.specs.Tables.{Sentence, Decided, none, line}
 use Rattle.demands.specs.Profile.{profileSentences}
+use Rattle.demands.specs.Reading.{TwoData}
 use Rattle.demands.specs.Survey.{
   surveySentences,
   Demand1Survey,
@@ -49,7 +49,7 @@ use Rattle.demands.proofs.Tables.{Holds, by-name, held, line-by-line, o
 use Rattle.demands.proofs.Calls.{tried-stops, tried-through}
 use Rattle.demands.proofs.Profile.{accepted-none, past-profile, profile-decided, call-for}
 use Rattle.demands.proofs.Reading.{read-refused, read-answered}
-use Rattle.demands.proofs.Results.{result-tells, join-failing, join-done, join-open}
+use Rattle.demands.proofs.Results.{set-decided, result-tells, join-failing, join-done, join-open}
 
 -- ---- the call: where it is not refused its answer is done, with the number of sets looked at
 survey-decided : (p : Profile) (start : ℕ) (x : List ℕ) → Decided (surveyTests p start x) (surveySentences p start x)
@@ -211,7 +211,7 @@ surveys-join p start most more x = go (refused-or-allowed p start x)
 pub survey-demands : SurveyDemands
 survey-demands = record {
   tells = survey-tells;
-  test = decides-fails;
+  test = set-decided;
   in-reading = fails-in-reading;
   all-sets = all-sets;
   done-reads = done-reads-all;

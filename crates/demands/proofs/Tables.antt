@@ -5,7 +5,8 @@
 -- FirstOf table r : `search in-order` shows it, where what r says is at hand and what refutes the lines before it
 -- Only Q table    : the lines that hold are of refusals as Q says. `search line-by-line` goes over them, where what is
 --                   needed of each is at hand
--- NoneHolds table : no line holds. `search line-by-line` shows this too
+-- NoneHolds table : no line holds, as `Only` says it. `search line-by-line` shows this too; none-holds and none-applies
+--                   lead from and to NoneApplies, as the demands say it
 -- first-or-none   : some refusal is the first of a table that tests decide, or no line holds
 use mathlib.Core.Path.{_≡_, refl, ap}
 use mathlib.Core.Logic.{_⊎_, inl, inr}
@@ -19,7 +20,7 @@ use Rattle.document.specs.declared.Refusal.{Refusal}
 use Rattle.document.specs.Refusals.{Test, Decides}
 use Rattle.document.proofs.Decides.{decides-false}
 use Rattle.document.proofs.Tried.{Failed}
-use Rattle.demands.specs.Tables.{Sentence, FirstOf, here, later, Decided, none, line}
+use Rattle.demands.specs.Tables.{Sentence, FirstOf, here, later, NoneApplies, empty, nor, Decided, none, line}
 
 -- ---- a line that holds, by its name
 pub data Holds : List Sentence → Refusal → Type 1 where
@@ -78,6 +79,14 @@ pub ruleset line-by-line = (no-line, and-line, only-append, only-listed)
 
 abbrev pub NoneHolds : List Sentence → Type 1
 NoneHolds table = Only (λ r. ⊥) table
+
+pub none-holds : {table : List Sentence} → NoneApplies table → NoneHolds table
+none-holds empty = no-line
+none-holds (nor n f) = and-line n (none-holds f)
+
+pub none-applies : {table : List Sentence} → NoneHolds table → NoneApplies table
+none-applies no-line = empty
+none-applies (and-line n f) = nor n (none-applies f)
 
 -- where no line of any name holds, each fails
 pub unheld : (table : List Sentence) → ((r : Refusal) → Holds table r → ⊥) → NoneHolds table

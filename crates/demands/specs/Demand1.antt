@@ -2,10 +2,11 @@
 -- document 01 .., given exactly when its condition is the first that holds in the order they are tried .., and it
 -- changes no byte that was lent.'
 --
--- Demand1 : demand 1 for the six calls, for all numbers and bytes. Shown in proofs/Demand1.antt: demand-1
+-- Demand1 : demand 1 for the six calls and the small program, for all numbers and bytes. Shown in proofs/Demand1.antt:
+--           demand-1
 --
 -- What it says of any call is in Tables.antt and Profile.antt, each call's table in the file of that call. The small
--- program, which is an entry point too, is in Program.antt.
+-- program answers by the table of a rebuild: Program.antt.
 --
 -- The statements here and in the other files are about definitions. An entry point's promise, without any `requires`,
 -- is that its answer and what it leaves in the buffers lent for writing are its definition's: `encode` is encodeOf,
@@ -23,6 +24,7 @@ use Rattle.demands.specs.Bundle.{Demand1Write}
 use Rattle.demands.specs.Rebuild.{Demand1Rebuild}
 use Rattle.demands.specs.Reading.{Demand1Read}
 use Rattle.demands.specs.Survey.{Demand1Survey}
+use Rattle.demands.specs.Program.{Demand1Program}
 
 -- 'Any bytes, any numbers, any time'
 pub record Demand1 : Type 1 where
@@ -32,3 +34,5 @@ pub record Demand1 : Type 1 where
   pub rebuild : (p : Numbers) (f : ℕ) (r : Recording) (b y : List ℕ) → Demand1Rebuild p f r b y
   pub read : (p : Numbers) (nodes x y : List ℕ) → Demand1Read p nodes x y
   pub survey : (p : Numbers) (start most : ℕ) (x : List ℕ) → Demand1Survey p start most x
+  -- the small program is an entry point too
+  pub program : Demand1Program

@@ -4,6 +4,7 @@
 -- Demand1Encode p d x   : encoding refuses as they say                                              demand-1-encode
 -- DocumentArray p d x   : x is the array that document 01 defines for the data d, in the profile p
 -- OneArray              : it is the only one                                                        one-array
+-- ArrayIsEncoded        : it is `encoded p d` of document/specs/Encoding.antt, which computes        array-is-encoded
 -- Demand2Encode         : encoding that is not refused writes it                                    demand-2-encode
 -- Shown in proofs/Encoding.antt, under the name beside each.
 --
@@ -14,6 +15,7 @@
 -- byte j         : the field element with the number j
 -- eval bytes c z : the value at z of the polynomial with the coefficients c, constant term first
 use mathlib.Core.Path.{_≡_}
+use mathlib.Core.Logic.{_↔_}
 use mathlib.Core.List.{List, [], _∷_}
 use Prim.Native.Nat.{ℕ, _*_, _%_, _≤_, _<_}
 use lib.ListN.{length}
@@ -27,7 +29,7 @@ use Rattle.document.specs.Refusals.{answerNumber, answerValue}
 use Rattle.document.specs.Places.{place, partnerOf}
 use Rattle.document.specs.ByteField.{bytes, Byte, byte}
 use Rattle.document.specs.Profile.{Accepted, profileOf}
-use Rattle.document.specs.Encoding.{byteAt, Stored, encodeTests, encodeOf}
+use Rattle.document.specs.Encoding.{byteAt, Stored, encoded, encodeTests, encodeOf}
 use Rattle.demands.specs.Tables.{Sentence}
 use Rattle.demands.specs.Profile.{Demand1For}
 
@@ -78,6 +80,12 @@ module _ (p : Profile) (d x : List ℕ) where
 -- For an accepted profile, two arrays of the same data that are as document 01 says are the same array.
 abbrev pub OneArray : Type 0
 OneArray = (p : Profile) → Accepted p → (d x y : List ℕ) → DocumentArray p d x → DocumentArray p d y → x ≡ y
+
+-- The array that document 01 defines is the one that is computed by Lagrange's formula.
+abbrev pub ArrayIsEncoded : Type 0
+ArrayIsEncoded =
+    (p : Profile) → Accepted p → (d x : List ℕ) → length d ≡ p .k * p .a * p .s
+    → DocumentArray p d x ↔ (x ≡ encoded p d)
 
 -- 'Encoding writes the array that document 01 defines.' 'On success the answer is 0, with .. 0 otherwise.'
 abbrev pub Demand2Encode : Type 0

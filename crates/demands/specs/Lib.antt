@@ -10,4 +10,6 @@ pub mod Reading
 pub mod Survey
 pub mod Program
 pub mod Demand1
+pub mod Demand2
 pub mod Demand3
+pub mod Demands

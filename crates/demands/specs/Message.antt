@@ -1,7 +1,7 @@
 -- A message to read: when a reader refuses it. Wanted are the profile p, m bytes of content in field 02, the recording
 -- r and the places qs. Document 01 has one message, the bundle: there m is 5, and the places are the planned ones
--- (Bundle.antt). Field 01 takes 9 bytes, field 02 takes 3+m, so that the fields 03, of 9+S bytes each, start at 12+m: in
--- a bundle at 17.
+-- (Bundle.antt). Field 01 takes 9 bytes, field 02 takes 3+m, so that the fields 03, of 9+S bytes each, start at 12+m:
+-- in a bundle at 17.
 --
 -- fieldStart p m i                    : where the field 03 of strip i starts, from 0
 -- Formed p m P b                      : b has the length, the tags and the field lengths of a message with P places

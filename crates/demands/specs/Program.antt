@@ -55,7 +55,7 @@ module _ (input : List ℕ) where
     pub column : NotRefused numbers node recording bundle lent
         → programOf input ≡ rebuildOf numbers node recording bundle lent .1
     -- 'or one line .. with the number and the strip's index'
-    pub line : (q : Refusal) → FirstOf table q → programOf input ≡ refusalLine q
+    pub line : (r : Refusal) → FirstOf table r → programOf input ≡ refusalLine r
     -- the lent column has the right length
     pub never-five : FirstOf table BufferLength → ⊥
 

@@ -2,6 +2,7 @@
 -- whose array has those columns. A request in due form is refused exactly when some two different data sets give equal
 -- columns on those drives.'
 --
+-- TwoData p nodes           : some two different data give equal columns on the named nodes
 -- readSentences p nodes x y : the lines for reading the columns x of the named nodes back into y, past those of a
 --                             profile
 -- Demand1Read p nodes x y   : reading back refuses as they say                                      demand-1-read
@@ -11,12 +12,13 @@
 -- Demand2Reading            : for all numbers, lists and bytes                                      demand-2-reading
 -- Shown in proofs/Reading.antt, under the name beside each.
 --
--- The words it uses, from document/specs/Reading.antt and, the last, ksets/specs/Sets.antt:
+-- The words it uses, from Encoding.antt, document/specs/Encoding.antt and Reading.antt, ksets/specs/Sets.antt:
+-- DocumentArray p d x     : x is the array that document 01 defines for the data d
+-- Data p d                : d are data
 -- joinedColumns p nodes x : the columns of the array x at the named nodes, joined in list order
--- TwoData p nodes         : some two different data give equal columns on the named nodes
 -- Rising n k nodes        : nodes are k strictly rising numbers below n
 use mathlib.Core.Path.{_≡_}
-use mathlib.Core.Logic.{_↔_}
+use mathlib.Core.Logic.{_↔_, _≢_}
 use mathlib.Core.List.{List, [], _∷_}
 use Prim.Native.Nat.{ℕ, _*_}
 use lib.ListN.{length}
@@ -27,10 +29,25 @@ use Rattle.document.specs.declared.Profile.{Profile}
 use Rattle.document.specs.declared.Refusal.the-variants.{OutOfRange, BufferLength, Ambiguous}
 use Rattle.document.specs.Refusals.{answerNumber, answerValue}
 use Rattle.document.specs.Profile.{Accepted, profileOf}
-use Rattle.document.specs.Encoding.{Data, encoded}
-use Rattle.document.specs.Reading.{joinedColumns, TwoData, readTests, readOf}
+use Rattle.document.specs.Encoding.{Data}
+use Rattle.document.specs.Reading.{joinedColumns, readTests, readOf}
 use Rattle.demands.specs.Tables.{Sentence}
 use Rattle.demands.specs.Profile.{Demand1For}
+use Rattle.demands.specs.Encoding.{DocumentArray}
+
+-- 'some two different data give equal columns on these nodes'
+pub record TwoData (p : Profile) (nodes : List ℕ) : Type 0 where
+  pub first : List ℕ
+  pub second : List ℕ
+  pub first-data : Data p first
+  pub second-data : Data p second
+  pub differ : first ≢ second
+  -- the array that each of them gives
+  pub first-array : List ℕ
+  pub second-array : List ℕ
+  pub first-gives : DocumentArray p first first-array
+  pub second-gives : DocumentArray p second second-array
+  pub alike : joinedColumns p nodes first-array ≡ joinedColumns p nodes second-array
 
 -- 4: 'node list not k strictly rising numbers below n'. 5: columns and data have kAS bytes each. 10: 'some two
 -- different data give equal columns on these nodes'.
@@ -59,8 +76,10 @@ pub record InDueForm (p : Numbers) (nodes x y : List ℕ) : Type 0 where
 -- 'the only data whose array has those columns'
 pub record OnlyData (p : Profile) (nodes x d : List ℕ) : Type 0 where
   pub are-data : Data p d
-  pub columns : joinedColumns p nodes (encoded p d) ≡ x
-  pub only : (c : List ℕ) → Data p c → joinedColumns p nodes (encoded p c) ≡ x → c ≡ d
+  pub array : List ℕ
+  pub gives : DocumentArray p d array
+  pub columns : joinedColumns p nodes array ≡ x
+  pub only : (c other : List ℕ) → Data p c → DocumentArray p c other → joinedColumns p nodes other ≡ x → c ≡ d
 
 pub record ReadsOnlyData (p : Numbers) (nodes x y : List ℕ) : Type 0 where
   -- 'returns the only data whose array has those columns'; the value that comes with the answer 0 is 0

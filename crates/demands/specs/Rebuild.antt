@@ -4,6 +4,7 @@
 -- rebuildSentences p f r b y : the lines for rebuilding node f from the bundle b into y, past those of a profile
 -- Demand1Rebuild p f r b y   : a rebuild refuses as they say                                        demand-1-rebuild
 -- NotRefused p f r b y       : a rebuild of node f from the bundle b, into y, is not refused
+-- InFourBytes r              : the scenario number of the recording r is one that four bytes hold
 -- RebuiltColumn p f r b y    : some encoded array has the strips of b; the rebuilt column is that of each such array
 --
 -- The statements of demand 3; Demand3.antt puts them together:
@@ -15,9 +16,13 @@
 -- CutPasses                  : a bundle cut for the wanted numbers is not refused                   cut-passes
 -- CutColumn                  : the column rebuilt from a bundle cut from any stored array           cut-column
 -- CutRebuilds                : from an encoded array, the rebuild gives the lost column back        cut-rebuilds
--- CutForWanted               : a bundle cut for other numbers than the wanted ones is refused       cut-for-wanted
+-- CutForWanted               : a bundle cut for another profile, node or recording is refused       cut-for-wanted
 -- WholeBundle                : what is not refused is what is cut from any array with its strips    whole-bundle
 -- Shown in proofs/Rebuild.antt, under the name beside each.
+--
+-- In all of them p are the wanted numbers, f is the wanted node, r the wanted recording, b a bundle, y what the buffer
+-- lent for the column holds, x a stored array. What else a bundle may be cut for is written out: numbers, node,
+-- recording. Where there are two of a kind they are numbered 1 and 2.
 --
 -- planned p f are the planned places, bundleStrip p b i is the strip i of the bundle b: document/specs/Plan.antt and
 -- Bundle.antt.
@@ -36,12 +41,13 @@ use Rattle.document.specs.declared.Recording.{Recording}
 use Rattle.document.specs.declared.Refusal.the-variants.{OutOfRange, BufferLength}
 use Rattle.document.specs.Refusals.{answerNumber, answerValue}
 use Rattle.document.specs.Profile.{profileOf}
+use Rattle.document.specs.Encoding.{columnIn}
 use Rattle.document.specs.Plan.{planned}
 use Rattle.document.specs.Bundle.{bundleOf, bundleStrip}
 use Rattle.document.specs.Rebuild.{rebuildTests, rebuildOf}
 use Rattle.demands.specs.Tables.{Sentence}
 use Rattle.demands.specs.Profile.{Demand1For}
-use Rattle.demands.specs.Strips.{EncodedArray, HasStrips, AlikeAt, columnIn}
+use Rattle.demands.specs.Strips.{EncodedArray, HasStrips, AlikeAt}
 use Rattle.demands.specs.Bundle.{bundleSentences, CutFrom}
 
 -- 5: a column has AS bytes; 'other than the bundle to read'.
@@ -62,6 +68,10 @@ Demand1Rebuild p f r b y =
 -- 'The rebuilt column is the AS bytes that a rebuild not refused leaves in the buffer lent for writing.'
 abbrev pub NotRefused : Numbers → ℕ → Recording → List ℕ → List ℕ → Type 0
 NotRefused p f r b y = answerNumber (rebuildOf p f r b y .0) ≡ 0
+
+-- 'scenario number in four bytes': a call takes no other, by its type.
+abbrev pub InFourBytes : Recording → Type 0
+InFourBytes r = r .scenario < 4294967296
 
 module _ (p : Numbers) (f : ℕ) where
   -- the wanted profile, and the planned places
@@ -87,31 +97,32 @@ module _ (p : Numbers) (f : ℕ) where
   -- 'No byte elsewhere, old or new, changes the rebuild.'
   abbrev pub SameStrips : Type 0
   SameStrips =
-      (r u : Recording) (b c y z : List ℕ) → NotRefused p f r b y → NotRefused p f u c z
-      → ((i : ℕ) → i < length plan → bundleStrip wanted b i ≡ bundleStrip wanted c i)
-      → rebuildOf p f r b y .1 ≡ rebuildOf p f u c z .1
+      (r₁ r₂ : Recording) (b₁ b₂ y₁ y₂ : List ℕ) → NotRefused p f r₁ b₁ y₁ → NotRefused p f r₂ b₂ y₂
+      → ((i : ℕ) → i < length plan → bundleStrip wanted b₁ i ≡ bundleStrip wanted b₂ i)
+      → rebuildOf p f r₁ b₁ y₁ .1 ≡ rebuildOf p f r₂ b₂ y₂ .1
 
   -- 'Take any two stored arrays alike at the planned places, whatever they hold elsewhere: rebuilds from bundles cut
   -- from them, where not refused, write the same column, whatever scenarios they are for and whatever the buffers lent
-  -- for writing held.'
+  -- for writing held.' The bundles may be cut for any numbers, nodes and recordings.
   abbrev pub SameColumn : Type 0
   SameColumn =
-      (x y : List ℕ) → AlikeAt wanted plan x y
-      → (r u : Recording) (b c : List ℕ) → CutFrom p f x r b → CutFrom p f y u c
-      → (v w : Recording) (d e : List ℕ) → NotRefused p f v b d → NotRefused p f w c e
-      → rebuildOf p f v b d .1 ≡ rebuildOf p f w c e .1
+      (x₁ x₂ : List ℕ) → AlikeAt wanted plan x₁ x₂
+      → (numbers₁ numbers₂ : Numbers) (node₁ node₂ : ℕ) (recording₁ recording₂ : Recording) (b₁ b₂ : List ℕ)
+      → CutFrom numbers₁ node₁ x₁ recording₁ b₁ → CutFrom numbers₂ node₂ x₂ recording₂ b₂
+      → (r₁ r₂ : Recording) (y₁ y₂ : List ℕ) → NotRefused p f r₁ b₁ y₁ → NotRefused p f r₂ b₂ y₂
+      → rebuildOf p f r₁ b₁ y₁ .1 ≡ rebuildOf p f r₂ b₂ y₂ .1
 
   -- For one recording, such arrays give one bundle: no byte elsewhere turns a rebuild into a refusal.
   abbrev pub SameBundle : Type 0
   SameBundle =
-      (x y : List ℕ) → AlikeAt wanted plan x y → (r : Recording) (b c : List ℕ) → CutFrom p f x r b
-      → CutFrom p f y r c → b ≡ c
+      (x₁ x₂ : List ℕ) → AlikeAt wanted plan x₁ x₂ → (r : Recording) (b₁ b₂ : List ℕ) → CutFrom p f x₁ r b₁
+      → CutFrom p f x₂ r b₂ → b₁ ≡ b₂
 
   -- 'Any two rebuilds given equal bundles, the same wanted numbers and buffers of equal length give the same answer,
   -- number and index, refused or not.'
   abbrev pub SameAnswer : Type 0
   SameAnswer =
-      (r : Recording) (b y z : List ℕ) → length y ≡ length z → rebuildOf p f r b y .0 ≡ rebuildOf p f r b z .0
+      (r : Recording) (b y₁ y₂ : List ℕ) → length y₁ ≡ length y₂ → rebuildOf p f r b y₁ .0 ≡ rebuildOf p f r b y₂ .0
 
   -- A bundle cut for the wanted numbers from any stored array is not refused.
   abbrev pub CutPasses : Type 0
@@ -121,20 +132,23 @@ module _ (p : Numbers) (f : ℕ) where
   -- Cut from any stored array: the column is that of every encoded array alike at the planned places.
   abbrev pub CutColumn : Type 0
   CutColumn =
-      (x : List ℕ) (r u : Recording) (b y : List ℕ) → CutFrom p f x r b → NotRefused p f u b y
-      → (z : List ℕ) → EncodedArray wanted z → AlikeAt wanted plan x z → rebuildOf p f u b y .1 ≡ columnIn wanted z f
+      (x₁ : List ℕ) (recording r : Recording) (b y : List ℕ) → CutFrom p f x₁ recording b → NotRefused p f r b y
+      → (x₂ : List ℕ) → EncodedArray wanted x₂ → AlikeAt wanted plan x₁ x₂
+      → rebuildOf p f r b y .1 ≡ columnIn wanted x₂ f
 
   -- Cut from an encoded array, it gives the lost column back.
   abbrev pub CutRebuilds : Type 0
   CutRebuilds =
-      (x : List ℕ) (r u : Recording) (b y : List ℕ) → CutFrom p f x r b → EncodedArray wanted x → NotRefused p f u b y
-      → rebuildOf p f u b y .1 ≡ columnIn wanted x f
+      (x : List ℕ) (recording r : Recording) (b y : List ℕ) → CutFrom p f x recording b → EncodedArray wanted x
+      → NotRefused p f r b y → rebuildOf p f r b y .1 ≡ columnIn wanted x f
 
-  -- A bundle cut for any numbers q and node g, and not refused: they are the wanted ones.
+  -- A bundle cut for any numbers, node and recording, and not refused: they are the wanted ones. Refusal 7 sees to it:
+  -- fields 01 and 02 have them.
   abbrev pub CutForWanted : Type 0
   CutForWanted =
-      (q : Numbers) (g : ℕ) (x : List ℕ) (r u : Recording) (b y : List ℕ) → CutFrom q g x r b → NotRefused p f u b y
-      → (q ≡ p) × (g ≡ f)
+      (numbers : Numbers) (node : ℕ) (x : List ℕ) (recording r : Recording) (b y : List ℕ)
+      → CutFrom numbers node x recording b → NotRefused p f r b y
+      → (numbers ≡ p) × (node ≡ f) × (InFourBytes recording → InFourBytes r → recording ≡ r)
 
   -- A bundle that is not refused is the one that is cut, for the wanted recording, from any array with its strips:
   -- refusals 6 to 9 leave no byte but the strips free.

@@ -4,33 +4,32 @@
 -- EncodedArray p x    : x is an encoded array
 -- HasStrips p qs x v  : x has the strip v i at place i of qs, for each of the places qs
 -- AlikeAt p qs x y    : the arrays x and y are alike at the places qs
--- columnIn p x j      : the column of node j in the array x
 -- FitsOver p f w      : any bytes at the planned places stand in some encoded array, over the walk w
 -- OneColumnOver p f w : encoded arrays alike at the planned places have the same lost column, over the walk w
 -- Fits                : the first, for every accepted profile, dead drive and complete walk        fits
 -- OneColumn           : the second                                                                 one-column
 -- Shown in proofs/Strips.antt, under the name beside each.
 --
--- planOver A k f w are the planned places over the walk w, stripOf p x q is the strip at the place q of the array x:
--- document/specs/Plan.antt and Encoding.antt.
+-- planOver A k f w are the planned places over the walk w: document/specs/Plan.antt. In an array x stripOf p x q is the
+-- strip at the place q, columnIn p x j the column of node j: document/specs/Encoding.antt.
 use mathlib.Core.Path.{_≡_}
 use mathlib.Core.List.{List}
-use Prim.Native.Nat.{ℕ, _*_, _<_}
+use Prim.Native.Nat.{ℕ, _<_}
 use lib.ListN.{length}
 use Rattle.lists.specs.Each.{Bytes}
-use Rattle.lists.specs.Put.{slice}
 use Rattle.document.specs.declared.Profile.{Profile}
 use Rattle.document.specs.declared.Node.{Node}
 use Rattle.document.specs.declared.Place.{Place}
 use Rattle.document.specs.Profile.{Accepted}
 use Rattle.document.specs.Places.{placeAt}
-use Rattle.document.specs.Encoding.{stripOf}
+use Rattle.document.specs.Encoding.{stripOf, columnIn, Data}
 use Rattle.document.specs.Plan.{Walk, Complete, planOver}
 use Rattle.demands.specs.Encoding.{DocumentArray}
 
 -- 'An encoded array is a stored array that some data give.'
 pub record EncodedArray (p : Profile) (x : List ℕ) : Type 0 where
   pub given : List ℕ
+  pub are-data : Data p given
   pub gives : DocumentArray p given x
 
 module _ (p : Profile) (qs : List Place) where
@@ -41,10 +40,6 @@ module _ (p : Profile) (qs : List Place) where
   -- 'any two stored arrays alike at the planned places'
   abbrev pub AlikeAt : List ℕ → List ℕ → Type 0
   AlikeAt x y = (i : ℕ) → i < length qs → stripOf p x (placeAt qs i) ≡ stripOf p y (placeAt qs i)
-
--- 'a node's column is its A strips, row 0 first'; 'strip (row i, node j) starts at (jA+i)S'.
-abbrev pub columnIn : Profile → List ℕ → ℕ → List ℕ
-columnIn p x j = slice x (j * p .a * p .s) (p .a * p .s)
 
 -- ---- 'For every accepted profile .. and every dead drive': what a rebuild rests on, over any walk that goes over each
 -- candidate once

@@ -37,11 +37,11 @@ use Rattle.document.specs.declared.Surveyed.the-variants.{Failing, Done, Open, 
 use Rattle.document.specs.declared.Refusal.the-variants.{OutOfRange, BufferLength}
 use Rattle.document.specs.Refusals.{answerNumber, Decides}
 use Rattle.document.specs.Profile.{Accepted, profileOf}
-use Rattle.document.specs.Reading.{TwoData, readOf}
+use Rattle.document.specs.Reading.{readOf}
 use Rattle.document.specs.Survey.{failsAt, surveyTests, surveyAnswer, surveyOf}
 use Rattle.demands.specs.Tables.{Sentence}
 use Rattle.demands.specs.Profile.{Demand1For}
-use Rattle.demands.specs.Reading.{InDueForm}
+use Rattle.demands.specs.Reading.{TwoData, InDueForm}
 
 -- 4: 'survey start above the number of sets'. 5: 'a lent buffer of k bytes'.
 unfoldable pub surveySentences : Profile → ℕ → List ℕ → List Sentence

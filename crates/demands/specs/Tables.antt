@@ -4,13 +4,18 @@
 --
 -- Sentence                            : a refusal, and what document 01's table says of it, for one call
 -- FirstOf table r                     : r is the first refusal in the table whose condition holds
--- RefusesExactly table before outcome : a call with this outcome, lent the bytes `before`, refuses as the table says
+-- NoneApplies table                   : no condition in the table holds
+-- RefusesExactly table before outcome : a call with this outcome, lent the bytes `before`, refuses as the table says,
+--                                       and is answered with 0 where no line of it holds
 -- Decided tests table                 : the tests that a call makes decide the sentences of the table, line by line,
 --                                       each where those before it do not hold
 -- numberIn s                          : the number of a line, and the index that it comes with
 -- Numbered table lines                : the table's lines have these numbers, and come with these indices
 -- Demand1Of tests table lines before outcome : a call with these tests and this outcome refuses as its table says,
 --                                       which has document 01's numbers
+--
+-- A call has two tables. The sentences here are the one to be believed; the tests in document/specs compute, and are
+-- shown to decide the sentences.
 --
 -- Shown of every call that tries its tests in order in proofs/Calls.antt: call-of. Profile.antt has the case of a call
 -- that is given a profile's numbers; each call's table, and demand 1 for it, are in the file of that call.
@@ -21,7 +26,7 @@ use Prim.Native.Nat.{ℕ}
 use Rattle.document.specs.declared.Refusal.{Refusal}
 use Rattle.document.specs.declared.Answer.{Answer}
 use Rattle.document.specs.declared.Answer.the-variants.{Refused}
-use Rattle.document.specs.Refusals.{numberOf, indexOf, Test, Decides}
+use Rattle.document.specs.Refusals.{numberOf, indexOf, answerNumber, Test, Decides}
 
 -- One line of the table 'Refusals by number, in the order they are tried', for one call.
 pub record Sentence : Type 1 where
@@ -33,11 +38,18 @@ pub data FirstOf : List Sentence → Refusal → Type 1 where
   here : {s : Sentence} {table : List Sentence} → s .says → FirstOf (s ∷ table) (s .refusal)
   later : {s : Sentence} {table : List Sentence} {r : Refusal} → (s .says → ⊥) → FirstOf table r → FirstOf (s ∷ table) r
 
+-- 'The lowest number that applies is the answer': here none does
+pub data NoneApplies : List Sentence → Type 1 where
+  empty : NoneApplies []
+  nor : {s : Sentence} {table : List Sentence} → (s .says → ⊥) → NoneApplies table → NoneApplies (s ∷ table)
+
 -- The outcome of a call is its answer, beside what the buffers lent for writing hold then. A buffer lent for reading is
 -- of a type that no function can write to.
 pub record RefusesExactly {X : Type 0} (table : List Sentence) (before : X) (outcome : Answer × X) : Type 1 where
   -- 'given exactly when its condition is the first that holds'
   pub given : (r : Refusal) → (outcome .0 ≡ Refused r) ↔ FirstOf table r
+  -- 'On success the answer is 0': exactly when no condition holds
+  pub answered : NoneApplies table ↔ (answerNumber (outcome .0) ≡ 0)
   -- 'and it changes no byte that was lent'
   pub kept : (r : Refusal) → outcome .0 ≡ Refused r → outcome .1 ≡ before
 

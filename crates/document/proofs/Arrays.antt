@@ -26,6 +26,8 @@ use Rattle.document.specs.Encoding.{
   coupledAt,
   laidOut,
   columnOf,
+  Data,
+  Stored,
   plain,
   coupled,
   encoded,
@@ -38,12 +40,12 @@ infixl 70 _⊗_
 open Field bytes using (add as _⊕_, mul as _⊗_)
 
 -- a product that is above something has factors above 0
-factor-above : (m w e : ℕ) → e < m * w → 0 < w
+pub factor-above : (m w e : ℕ) → e < m * w → 0 < w
 factor-above m zero e h = absurd (omega (arith, mul-zero m))
 factor-above m (suc w) e h = omega arith
 
 module _ (p : Profile) where
-  open Profile p using (n, a as A, s as S)
+  open Profile p using (n, k, a as A, s as S)
 
   module _ (m : ℕ) (f : ℕ → Place → Byte) where
     abbrev at-index : ℕ → ℕ
@@ -125,6 +127,14 @@ module _ (p : Profile) where
     where
       at : (z b : ℕ) → z < m * A → b < S → getD x (z * S + b) 0 ≡ number (byteAt p x b (place (z / A) (z % A)))
       at z b h l = rw (div-add-mod' z A) (sym (number-byte _ (small (z * S + b) (rw size (digits-lt h l)))))
+
+  -- any symbols laid out are data, and an encoded array is a stored one
+  pub laid-data : (f : ℕ → Place → Byte) → Data p (laidOut p k f)
+  laid-data f = record { size = laid-length k f; bytes-only = laid-small k f }
+
+  pub encoded-stored : (d : List ℕ) → Stored p (encoded p d)
+  unfolding encoded
+  encoded-stored d = record { size = laid-length n _; bytes-only = laid-small n _ }
 
   -- what is stored at a place, by document 01's three cases
   module _ (a : Place → Byte) (j i : ℕ) where

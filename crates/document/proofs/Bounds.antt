@@ -1,8 +1,18 @@
 -- How large the numbers of an accepted profile are, and where strips lie.
-use mathlib.Core.Path.{_≡_}
-use Prim.Native.Nat.{ℕ, _+_, _*_, _/_, _%_, _≤_, _<_}
-use native.Mathlib.Nat.{suc-mul, mul-le-mul, mul-le-mul-right, div-lt-iff-lt-mul, div-add-mod', mod-lt}
-use native.Mathlib.Decide.{ℕ-discrete}
+use mathlib.Core.Path.{_≡_, ap}
+use Prim.Native.Nat.{ℕ, _+_, _-_, _*_, _/_, _%_, _≤_, _<_}
+use native.Mathlib.Nat.{
+  suc-mul,
+  add-mul,
+  mul-add,
+  mul-comm,
+  mul-le-mul,
+  mul-le-mul-left,
+  mul-le-mul-right,
+  div-lt-iff-lt-mul,
+  div-add-mod',
+  mod-lt,
+}
 use native.Mathlib.Omega.{arith}
 use lib.Arith.{digits-lt}
 use Rattle.document.specs.declared.Profile.{Profile}
@@ -14,21 +24,28 @@ use Rattle.document.specs.Places.{place, partnerOf, Within}
 pub room : (m c w : ℕ) → m < c → m * w + w ≤ c * w
 room m c w h = rw suc-mul at (mul-le-mul-right w h)
 
--- k ≤ 24 - A, and (24 - A)A is 44, 63 and 80 for two, three and four rows
-product-bound : (k A : ℕ) → k + A ≤ 24 → A ≤ 4 → k * A ≤ 80
-product-bound k A h l = go (ℕ-discrete A 4) (ℕ-discrete A 3)
-  where
-    go : Dec (A ≡ 4) → Dec (A ≡ 3) → k * A ≤ 80
-    go (yes e) d = let m : k + 4 ≤ 24 = rw e at h in rw e (omega arith)
-    go (no d) (yes e) = let m : k + 3 ≤ 24 = rw e at h in rw e (omega arith)
-    go (no d) (no e) = omega (arith, mul-le-mul {n₁ = k} {m₁ = A} {n₂ = 24} {m₂ = 2} (omega arith) (omega arith))
+-- for all A at once: with A + d = 4, m is at most c + d, and so mA at most cA + dA, which is at most cA + cd
+pub rows-bound : (c m A : ℕ) → A ≤ 4 → A ≤ c → m + A ≤ c + 4 → m * A ≤ c * 4
+rows-bound c m A few low h =
+    let d : ℕ = 4 - A in
+    let reach : m ≤ c + d = omega arith in
+    let whole : A + d ≡ 4 = omega arith in
+    omega (
+      arith,
+      mul-le-mul-right A reach,
+      add-mul c d A,
+      mul-le-mul-left d low,
+      mul-comm c d,
+      mul-add c A d,
+      ap (λ (e : ℕ). c * e) whole,
+    )
 
 module _ (p : Profile) (acc : Accepted p) where
   open Profile p using (n, k, a as A, s as S)
 
   -- 'at most 80 by 80 field elements'
   pub square-bound : k * A ≤ 80
-  square-bound = product-bound k A (omega (arith, acc .shape)) (acc .shape .few-rows)
+  square-bound = rows-bound 20 k A (acc .shape .few-rows) (omega (arith, acc .shape)) (omega (arith, acc .shape))
 
   pub data-bound : k * A * S ≤ 40960
   data-bound = mul-le-mul {n₁ = k * A} {m₁ = S} {n₂ = 80} {m₂ = 512} square-bound (acc .short)

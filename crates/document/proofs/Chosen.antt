@@ -49,7 +49,7 @@ use Rattle.document.specs.Plan.{rowAt, pairsAt, Walk, walkOf, stepTwo, s
 use Rattle.document.specs.Rebuild.{positionOf}
 use Rattle.document.proofs.Decides.{decides-false, decides-place}
 use Rattle.document.proofs.Bounds.{A>0, group-within, partner-within}
-use Rattle.document.proofs.Walks.{Sound, walk-sound, nodes-enough}
+use Rattle.document.proofs.Walks.{Sound, walk-sound, planned-over, nodes-enough}
 use Rattle.document.proofs.Planned.{
   own-is,
   each-pairs,
@@ -271,5 +271,4 @@ module _ (p : Profile) (acc : Accepted p) (f : Node) (h : f .0 < p .n) (w : Walk
 
 -- over document 01's walk
 pub plan-within : (p : Profile) → Accepted p → (f : Node) → f .0 < p .n → Each (Within p) (planned p f)
-unfolding planned
-plan-within p acc f h = planned-within p acc f h (walkOf p f) (walk-sound p acc f h)
+plan-within p acc f h = rw planned-over (planned-within p acc f h (walkOf p f) (walk-sound p acc f h))

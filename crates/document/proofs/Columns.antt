@@ -8,7 +8,6 @@ use native.Mathlib.Decide.{ℕ-discrete, decLt}
 use native.Mathlib.Omega.{arith}
 use lib.ListN.{length, getD}
 use Rattle.lists.specs.Listed.{listed}
-use Rattle.lists.specs.Put.{slice}
 use Rattle.lists.proofs.Listed.{listed-ext}
 use Rattle.lists.proofs.Slice.{slice-at, slice-listed}
 use Rattle.algebra.specs.Field.{Field}
@@ -30,12 +29,14 @@ use Rattle.document.specs.Encoding.{
   start,
   byteAt,
   stripOf,
+  columnIn,
   baseAt,
   constantOf,
   factorAt,
   coupledAt,
   laidOut,
   columnOf,
+  Data,
   encoded,
 }
 use Rattle.document.specs.Message.{stripFieldLength, stripIn, stripFieldStart}
@@ -44,8 +45,8 @@ use Rattle.document.specs.Rebuild.{firstStrip}
 use Rattle.document.proofs.ByteField.{number-byte, number-zero, number-one, points-distinct}
 use Rattle.document.proofs.Bounds.{room, A>0, n-is, strip-within}
 use Rattle.document.proofs.Arrays.{
-  laid-length,
   laid-byte,
+  laid-data,
   coupled-diagonal,
   coupled-upper,
   coupled-lower,
@@ -172,9 +173,9 @@ module _ (p : Profile) where
       -- Any strips at the planned places stand in some encoded array.
       pub some-array : ((q : ℕ) → q < k → s q / A ≢ f / A) → (n / A ≤ k) ⊎ ((q : ℕ) → q < k → s q % A ≡ f % A)
           → (x : ℕ → Place → Byte)
-          → (d : List ℕ) × (length d ≡ k * A * S) × Alike f s (byteAt p (encoded p d)) x
+          → (d : List ℕ) × Data p d × Alike f s (byteAt p (encoded p d)) x
       unfolding encode symbols baseAt
-      some-array outside shape x = (d, laid-length p k base, same)
+      some-array outside shape x = (d, laid-data p base, same)
         where
           fit : (b : ℕ) → Fitting bytes coupled-code f s (array x b)
           fit b =
@@ -202,7 +203,7 @@ module _ (p : Profile) where
     -- ---- columns and strips in memory
     module _ (x : List ℕ) (size : length x ≡ n * A * S) (small : (e : ℕ) → e < length x → getD x e 0 < 256) where
       -- A node's column lies in one piece.
-      pub column-slice : (j : ℕ) → j < n → columnOf p (byteAt p x) j ≡ slice x (j * A * S) (A * S)
+      pub column-slice : (j : ℕ) → j < n → columnOf p (byteAt p x) j ≡ columnIn p x j
       unfolding columnOf byteAt start
       column-slice j h = slice-listed x (j * A * S) (A * S) within _ at
         where

@@ -3,6 +3,7 @@ pub mod Decides
 pub mod Refusals
 pub mod Accepts
 pub mod Bounds
+pub mod Ceilings
 pub mod Arrays
 pub mod Rows
 pub mod Walks
@@ -20,6 +21,7 @@ pub mod Factors
 pub mod SquareSteps
 pub mod Squares
 pub mod Coefficients
+pub mod Joined
 pub mod Reading
 pub mod NodeLists
 pub mod Surveys

@@ -7,9 +7,9 @@ use Rattle.ksets.specs.Sets.{RisingFrom, none, next, Rising}
 use Rattle.document.specs.declared.Profile.{Profile}
 use Rattle.document.specs.Refusals.{Decides}
 use Rattle.document.specs.Profile.{Accepted}
-use Rattle.document.specs.Reading.{listAccepted, TwoData, ambiguous}
+use Rattle.document.specs.Reading.{listAccepted, ambiguous}
 use Rattle.document.proofs.Decides.{decides-le, decides-lt, decides-both, decides-same}
-use Rattle.document.proofs.Reading.{ambiguous-two, two-ambiguous}
+use Rattle.document.proofs.Reading.{TwoEncoded, ambiguous-two, two-ambiguous}
 
 -- a rising list, by its first number and the rest
 rising-parts : {n b k x : ℕ} {xs : List ℕ} → RisingFrom n b (suc k) (x ∷ xs)
@@ -32,7 +32,7 @@ decides-list-accepted n (suc k) b (x ∷ xs) =
     (decides-both _ _ (decides-le b x) (decides-both _ _ (decides-lt x n) (decides-list-accepted n k (suc x) xs)))
     (λ h. next (h .0) (h .1 .0) (h .1 .1)) rising-parts
 
--- For k named nodes of an accepted profile the test of refusal 10 is its sentence.
+-- For k named nodes of an accepted profile the test of refusal 10 decides its sentence, of encoded arrays.
 pub decides-ambiguous : (p : Profile) → Accepted p → (nodes : List ℕ) → Rising (p .n) (p .k) nodes
-    → Decides (ambiguous p nodes) (TwoData p nodes)
+    → Decides (ambiguous p nodes) (TwoEncoded p nodes)
 decides-ambiguous p acc nodes rises = (ambiguous-two p acc nodes rises, two-ambiguous p acc nodes rises)

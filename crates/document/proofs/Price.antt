@@ -1,8 +1,9 @@
 -- How many places a plan reads: its price, over any walk that goes over each candidate once.
 use mathlib.Core.Path.{_≡_, refl}
 use mathlib.Core.List.{List, [], _∷_}
-use Prim.Native.Nat.{ℕ, zero, suc, _+_, _-_, _*_, _/_, _≤_, _<_}
+use Prim.Native.Nat.{ℕ, _+_, _-_, _*_, _/_, _≤_, _<_}
 use native.Mathlib.Nat.{mul-sub}
+use native.Mathlib.Decide.{decLt}
 use native.Mathlib.Omega.{arith}
 use lib.ListN.{length, length-append, length-map, length-take}
 use Rattle.document.specs.declared.Profile.{Profile}
@@ -20,8 +21,8 @@ use Rattle.document.specs.Plan.{
   priceOf,
   maxPlaces,
 }
-use Rattle.document.proofs.Bounds.{n-is}
-use Rattle.document.proofs.Walks.{Sound, complete-sound, walk-complete, nodes-enough}
+use Rattle.document.proofs.Bounds.{rows-bound}
+use Rattle.document.proofs.Walks.{Sound, complete-sound, walk-complete, planned-over, nodes-enough}
 
 -- a node stands for two places in step 3
 pairs-length : (A : ℕ) (f : Node) (js : List ℕ) → length (pairsAt A f js) ≡ 2 * length js
@@ -35,17 +36,19 @@ later-price : (k d : ℕ) (w : Walk) → length (w .diagonal) ≡ d → k - d �
 later-price k d w diagonal enough =
     rw (length-take _ (w .diagonal), length-take _ (w .off-diagonal), diagonal) (omega (arith, enough))
 
--- (24,20,4) has the longest plan
+-- (24,20,4) has the longest plan: k is at most 24 - A, and at most (G-1)A, which is at most 16 where G-1 + A is at
+-- most 8
 pub price-bound : (p : Profile) → Accepted p → priceOf (p .n) (p .k) (p .a) ≤ maxPlaces
-price-bound p acc = go (p .a) (acc .shape .two-rows) (acc .shape .few-rows) (acc .shape .enough-parity) (n-is p acc)
+price-bound p acc = go (decLt (others + p .a) 9)
   where
-    go : (A : ℕ) → 2 ≤ A → A ≤ 4 → A ≤ p .n - p .k → p .n ≡ p .n / A * A → priceOf (p .n) (p .k) A ≤ maxPlaces
-    go (suc (suc zero)) l h e i = omega (arith, acc .shape .few-nodes)
-    go (suc (suc (suc zero))) l h e i = omega (arith, acc .shape .few-nodes)
-    go (suc (suc (suc (suc zero)))) l h e i = omega (arith, acc .shape .few-nodes)
-    go zero l h e i = absurd (omega arith)
-    go (suc zero) l h e i = absurd (omega arith)
-    go (suc (suc (suc (suc (suc A))))) l h e i = absurd (omega arith)
+    others : ℕ
+    others = p .n / p .a - 1
+
+    go : Dec (others + p .a < 9) → priceOf (p .n) (p .k) (p .a) ≤ maxPlaces
+    go (yes few) =
+        let few-rows : p .a ≤ 4 = acc .shape .few-rows in
+        omega (arith, nodes-enough p acc, rows-bound 4 others (p .a) few-rows few-rows (omega arith))
+    go (no many) = omega (arith, acc .shape)
 
 module _ (p : Profile) (acc : Accepted p) (f : Node) (h : f .0 < p .n) where
   open Profile p using (n, k, a as A)
@@ -67,8 +70,7 @@ module _ (p : Profile) (acc : Accepted p) (f : Node) (h : f .0 < p .n) where
       enough = omega (arith, sound .off-diagonal-length, mul-sub (G - 1) A 1, nodes-enough p acc)
 
   pub planned-price : length (planned p f) ≡ priceOf n k A
-  unfolding planned
-  planned-price = over-price (walkOf p f) (walk-complete p f)
+  planned-price = rw planned-over (over-price (walkOf p f) (walk-complete p f))
 
   pub few-places : length (planned p f) ≤ maxPlaces
   few-places = omega (arith, planned-price, price-bound p acc)

@@ -2,16 +2,17 @@
 -- its elimination gets stuck some two different data give equal columns, and otherwise the data read back are the only
 -- ones with these columns.
 use mathlib.Core.Path.{_≡_, refl, sym, ap, _∙_}
+use mathlib.Core.Logic.{_≢_}
 use mathlib.Core.Bool.{Bool, true, false}
 use mathlib.Core.List.{List}
-use Prim.Native.Nat.{ℕ, zero, suc, _+_, _*_, _/_, _%_, _<_}
+use Prim.Native.Nat.{ℕ, _+_, _*_, _/_, _%_, _<_}
 use native.Mathlib.Nat.{mul-comm, mod-lt, div-add-mod', div-lt-iff-lt-mul}
 use native.Mathlib.Omega.{arith}
 use lib.Arith.{digits-lt, digits-div, digits-mod}
 use lib.ListN.{length, getD}
 use Rattle.lists.specs.Listed.{listed}
 use Rattle.lists.proofs.Listed.{listed-length, listed-at, listed-holds}
-use Rattle.ksets.specs.Sets.{RisingFrom, none, next, Rising}
+use Rattle.ksets.specs.Sets.{Rising}
 use Rattle.algebra.specs.Field.{Field}
 use Rattle.algebra.specs.Square.{dot, Matrix, image, Solves, Kernel, Inverse}
 use Rattle.algebra.proofs.Sum.{sum-ext}
@@ -19,7 +20,6 @@ use Rattle.algebra.proofs.Square.{dot-ext, dot-zeros}
 use Rattle.square.specs.declared.Line.{Line}
 use Rattle.square.specs.Steps.{noLine, lineAt, entry}
 use Rattle.document.specs.declared.Profile.{Profile}
-use Rattle.document.specs.declared.Place.{Place}
 use Rattle.document.specs.Profile.{Accepted}
 use Rattle.document.specs.Places.{place, Within}
 use Rattle.document.specs.ByteField.{bytes, Byte, byte, number}
@@ -30,7 +30,6 @@ use Rattle.document.specs.Reading.{
   dataIndex,
   joinedPlace,
   joinedColumns,
-  TwoData,
   coefficientLine,
   squareOf,
   eliminationOf,
@@ -38,29 +37,16 @@ use Rattle.document.specs.Reading.{
   inverseOf,
   dataFrom,
 }
-use Rattle.document.proofs.ByteField.{number-lt, number-byte, byte-number}
+use Rattle.document.proofs.ByteField.{number-lt, byte-number}
 use Rattle.document.proofs.Bounds.{A>0}
-use Rattle.document.proofs.Arrays.{
-  laid-length,
-  laid-small,
-  laid-strip,
-  laid-byte,
-  laid-only,
-  laid-ext,
-  laid-bytes,
-}
+use Rattle.document.proofs.Arrays.{laid-byte, laid-ext, laid-bytes, laid-data, encoded-stored}
+use Rattle.document.proofs.Joined.{rising-below, joined-byte, joined-data, joined-only}
 use Rattle.document.proofs.SquareSteps.{matrix, Shaped, unit-square}
 use Rattle.document.proofs.Squares.{singular-kernel, regular, not-singular}
 use Rattle.document.proofs.Coefficients.{encoded-sum}
 
 infixl 70 _⊗_
 open Field bytes using (𝟘, mul as _⊗_)
-
--- The entries of a rising list lie below its bound.
-pub rising-below : {n b k : ℕ} {xs : List ℕ} → RisingFrom n b k xs → (m : ℕ) → m < k → getD xs m 0 < n
-rising-below none m h = absurd (omega arith)
-rising-below (next low high r) zero h = high
-rising-below (next low high r) (suc m) h = rising-below r m (omega arith)
 
 -- The numbers of bytes, listed, lie below 256, and so does what is read past the end.
 pub listed-small : (w : ℕ) (f : ℕ → Byte) (e : ℕ) → getD (listed w (λ i. number (f i))) e 0 < 256
@@ -70,10 +56,6 @@ module _ (p : Profile) where
   open Profile p using (n, k, a as A, s as S)
 
   -- ---- data, symbol by symbol
-  -- any symbols laid out are data
-  pub laid-data : (f : ℕ → Place → Byte) → Data p (laidOut p k f)
-  laid-data f = record { size = laid-length p k f; bytes-only = laid-small p k f }
-
   -- a symbol of data that are given by its number
   laid-symbol : 0 < k → (f : ℕ → ℕ → Byte) (b e : ℕ) → b < S → e < k * A
       → byteAt p (laidOut p k (λ b q. f b (dataIndex p q))) b (dataPlace p e) ≡ f b e
@@ -93,30 +75,16 @@ module _ (p : Profile) where
       at b j i l u v =
           rw (digits-mod i u, digits-div i u) at (h b (i * k + j) l (omega (arith, digits-lt v u, mul-comm k A)))
 
+  -- 'some two different data give equal columns on these nodes', of encoded arrays
+  pub record TwoEncoded (nodes : List ℕ) : Type 0 where
+    pub first : List ℕ
+    pub second : List ℕ
+    pub first-data : Data p first
+    pub second-data : Data p second
+    pub differ : first ≢ second
+    pub alike : joinedColumns p nodes (encoded p first) ≡ joinedColumns p nodes (encoded p second)
+
   module _ (nodes : List ℕ) where
-    -- ---- the columns, joined
-    -- byte b of strip z
-    pub joined-byte : (y : List ℕ) (z b : ℕ) → z < k * A → b < S
-        → byte (getD (joinedColumns p nodes y) (z * S + b) 0) ≡ byteAt p y b (joinedPlace p nodes z)
-    unfolding joinedColumns
-    joined-byte y z b h l = ap byte (laid-strip p k _ z b h l) ∙ byte-number (byteAt p y b (joinedPlace p nodes z))
-
-    -- they are kAS bytes, as data are
-    pub joined-data : (y : List ℕ) → Data p (joinedColumns p nodes y)
-    unfolding joinedColumns
-    joined-data y = laid-data _
-
-    -- kAS bytes that are those of the strips are the columns
-    pub joined-only : (y x : List ℕ) → Data p x
-        → ((z b : ℕ) → z < k * A → b < S → byteAt p y b (joinedPlace p nodes z) ≡ byte (getD x (z * S + b) 0))
-        → joinedColumns p nodes y ≡ x
-    unfolding joinedColumns
-    joined-only y x X h =
-        sym
-        (laid-only p k _ x (X .size)
-        (λ z b u l. sym (number-byte _ (X .bytes-only (z * S + b) (rw (X .size) (digits-lt u l))))
-        ∙ ap number (sym (h z b u l))))
-
     -- ---- the coefficient square
     -- a line of it
     square-line : (z : ℕ) → z < k * A
@@ -164,7 +132,7 @@ module _ (p : Profile) where
   -- What is read back is data, whatever the columns.
   pub read-data : (nodes x : List ℕ) → Data p (dataFrom p nodes x)
   unfolding dataFrom
-  read-data nodes x = laid-data _
+  read-data nodes x = laid-data p _
 
   -- ---- k named nodes of an accepted profile
   module _ (acc : Accepted p) (nodes : List ℕ) (rises : Rising n k nodes) where
@@ -202,18 +170,18 @@ module _ (p : Profile) where
 
     -- The elimination gets stuck: a vector other than zero that the square takes to zero is, at each byte offset, data
     -- with the columns of the data that are all zero.
-    pub ambiguous-two : ambiguous p nodes ≡ true → TwoData p nodes
+    pub ambiguous-two : ambiguous p nodes ≡ true → TwoEncoded nodes
     unfolding ambiguous eliminationOf
     ambiguous-two e = record {
       first = at-numbers v;
       second = at-numbers (λ e. 𝟘);
-      first-data = laid-data _;
-      second-data = laid-data _;
+      first-data = laid-data p _;
+      second-data = laid-data p _;
       differ = λ same. null .nonzero
           (sym (symbol v) ∙ ap (λ (d : List ℕ). byteAt p d 0 (dataPlace p (null .at))) same ∙ symbol (λ e. 𝟘));
-      alike = joined-only nodes _ _ (joined-data nodes _) (λ z b h l.
+      alike = joined-only p (encoded-stored p _) rises _ (joined-data p (encoded-stored p _) rises) (λ z b h l.
           laid-columns (λ b. v) b z l h ∙ null .kills z h ∙ sym (dot-zeros bytes m (M z))
-          ∙ sym (laid-columns (λ b e. 𝟘) b z l h) ∙ sym (joined-byte nodes _ z b h l));
+          ∙ sym (laid-columns (λ b e. 𝟘) b z l h) ∙ sym (joined-byte p (encoded-stored p _) rises z b h l));
     }
       where
         null : Kernel bytes m m M
@@ -240,7 +208,7 @@ module _ (p : Profile) where
           → joinedColumns p nodes (encoded p (dataFrom p nodes x)) ≡ x
       unfolding dataFrom dot matrix
       read-columns x size small =
-          joined-only nodes _ x (record { size = size; bytes-only = small })
+          joined-only p (encoded-stored p _) rises x (record { size = size; bytes-only = small })
           (λ z b h l. laid-columns (solution nodes x) b z l h ∙ inverse .solves refl (given x b) z h)
 
       -- They are the only ones.
@@ -250,7 +218,7 @@ module _ (p : Profile) where
         where
           solves : (b : ℕ) → b < S → Solves bytes m m M (given x b) (λ e. byteAt p d b (dataPlace p e))
           solves b l z h =
-              sym (columns-times d b z l h) ∙ sym (joined-byte nodes (encoded p d) z b h l)
+              sym (columns-times d b z l h) ∙ sym (joined-byte p (encoded-stored p d) rises z b h l)
               ∙ ap (λ (y : List ℕ). given y b z) same
 
           at : (b e : ℕ) → b < S → e < m
@@ -260,7 +228,7 @@ module _ (p : Profile) where
               ∙ sym (laid-symbol (acc .shape .some-data) (solution nodes x) b e l h)
 
     -- So where two different data have equal columns it gets stuck.
-    pub two-ambiguous : TwoData p nodes → ambiguous p nodes ≡ true
+    pub two-ambiguous : TwoEncoded nodes → ambiguous p nodes ≡ true
     two-ambiguous two = go (ambiguous p nodes) refl
       where
         go : (v : Bool) → ambiguous p nodes ≡ v → v ≡ true

@@ -8,15 +8,10 @@ use native.Mathlib.Decide.{ℕ-discrete, decLt}
 use native.Mathlib.Omega.{arith}
 use borrow.Author.Tests.{lt-ltb, le-ltb, eq-eqb, ne-eqb}
 use Rattle.ksets.specs.Sets.{sets, setAt}
-use Rattle.ksets.proofs.Ranked.{set-rising}
 use Rattle.document.specs.declared.Profile.{Profile}
 use Rattle.document.specs.declared.Surveyed.{Surveyed}
 use Rattle.document.specs.declared.Surveyed.the-variants.{Failing, Done, Open}
-use Rattle.document.specs.Refusals.{Decides}
-use Rattle.document.specs.Profile.{Accepted}
-use Rattle.document.specs.Reading.{TwoData}
-use Rattle.document.specs.Survey.{firstIn, failsAt, lookedAt, foundFrom, resultOf}
-use Rattle.document.proofs.NodeLists.{decides-ambiguous}
+use Rattle.document.specs.Survey.{firstIn, lookedAt, foundFrom, resultOf}
 
 module _ (P : ℕ → Bool) where
   -- f is the first of the c positions from `at` on for which P holds; the one after them if there is none.
@@ -129,12 +124,6 @@ module _ (P : ℕ → Bool) (at end : ℕ) where
 
 module _ (p : Profile) where
   open Profile p using (n, k)
-
-  -- For an accepted profile the test of a set is what the survey is about.
-  pub decides-fails : Accepted p → (pos : ℕ) → pos < sets n k
-      → Decides (failsAt p pos) (TwoData p (setAt 0 n k pos))
-  unfolding failsAt
-  decides-fails acc pos h = decides-ambiguous p acc (setAt 0 n k pos) (set-rising n k pos h)
 
   -- ---- the result, by its three cases
   -- what is answered and written where the set at a position is the first that fails

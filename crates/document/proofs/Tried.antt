@@ -1,5 +1,5 @@
--- The laws of `tried`: one test, a line for each of n things, what an answer tells, two lists in a row, and where no test
--- holds.
+-- The laws of `tried`: one test, a line for each of n things, what an answer tells, two lists in a row, and where no
+-- test holds.
 use mathlib.Core.Path.{_≡_, refl, sym, ap, _∙_}
 use mathlib.Core.Bool.{Bool, true, false}
 use mathlib.Core.List.{List, [], _∷_, _++_}

@@ -1,5 +1,5 @@
--- The values of answers are small: a strip's index is below the number of planned places, a bundle is short, and a survey's
--- position and number of sets are at most the number of sets of 12 of 24 nodes.
+-- The values of answers are small: a strip's index is below the number of planned places, a bundle is short, and a
+-- survey's position and number of sets are at most the number of sets of 12 of 24 nodes.
 use mathlib.Core.Path.{_≡_, refl}
 use mathlib.Core.Bool.{Bool, true, false, _&&_, not}
 use mathlib.Core.List.{List, [], _∷_, _++_}
@@ -44,8 +44,8 @@ use Rattle.document.proofs.Price.{few-places}
 use Rattle.document.proofs.Bundle.{bundle-length, bundle-bound}
 use Rattle.document.proofs.Surveys.{by-result}
 
--- Of a list of tests: each refusal comes with an index of at most `most`, if those before it were not given, and Q holds
--- if none was.
+-- Of a list of tests: each refusal comes with an index of at most `most`, if those before it were not given, and Q
+-- holds if none was.
 data Small (most : ℕ) (Q : Type 0) : List Test → Type 0 where
   done : Q → Small most Q []
   next : {test : Test} {tests : List Test} → indexOf (test .refusal) ≤ most

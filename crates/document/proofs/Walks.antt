@@ -1,11 +1,11 @@
 -- What follows for a walk from going over each candidate once: which nodes each of its steps has, none of them twice,
--- and how many. Document 01's walk is one such.
+-- and how many. Document 01's walk is one such, and the plan over it is the planned places.
 use mathlib.Core.Path.{_≡_, ap, ap₂, _∙_}
 use mathlib.Core.Bool.{Bool, true, _&&_}
 use Prim.Native.Nat.{ℕ, _-_, _*_, _/_, _%_, _≤_, _<_}
 use native.Mathlib.Nat.{one-mul, mul-one, mul-sub, mod-lt, div-lt-iff-lt-mul}
 use native.Mathlib.Omega.{arith}
-use lib.ListN.{length, getD}
+use lib.ListN.{length, getD, length-map}
 use Rattle.lists.specs.Listed.{rising}
 use Rattle.lists.specs.Each.{Each, Distinct}
 use Rattle.lists.proofs.Rising.{count-one, count-others, count-digits}
@@ -13,7 +13,18 @@ use Rattle.lists.proofs.Once.{once-each, once-distinct, once-length, once-has, 
 use Rattle.document.specs.declared.Profile.{Profile}
 use Rattle.document.specs.declared.Node.{Node}
 use Rattle.document.specs.Profile.{Accepted}
-use Rattle.document.specs.Plan.{isOwn, isDiagonal, isOffDiagonal, Walk, Complete, walkOf}
+use Rattle.document.specs.Plan.{
+  isOwn,
+  isDiagonal,
+  isOffDiagonal,
+  rowAt,
+  planned,
+  Walk,
+  Complete,
+  walkOf,
+  stepTwo,
+  planOver,
+}
 use Rattle.document.proofs.Bounds.{A>0, n-is}
 
 pub record Sound (n A : ℕ) (f : Node) (w : Walk) : Type 0 where
@@ -35,6 +46,11 @@ walk-complete p f = record {
   diagonal = rising-once (p .n) (isDiagonal (p .a) f);
   off-diagonal = rising-once (p .n) (isOffDiagonal (p .a) f);
 }
+
+-- the planned places are those of the steps over this walk
+pub planned-over : (p : Profile) (f : Node) → planned p f ≡ planOver (p .a) (p .k) f (walkOf p f)
+unfolding planned planOver
+planned-over p f = rw (length-map (stepTwo (p .k) (walkOf p f)) (rowAt (p .a) f))
 
 module _ (p : Profile) (acc : Accepted p) where
   open Profile p using (n, k, a as A)

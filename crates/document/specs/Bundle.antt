@@ -1,5 +1,5 @@
--- 'The download bundle': the message (Message.antt) with the lost node f and the recording r in field 02, and a field 03
--- for each planned place.
+-- 'The download bundle': the message (Message.antt) with the lost node f and the recording r in field 02, and a field
+-- 03 for each planned place.
 --
 -- lostContent f r     : the content of field 02
 -- lostContentLength   : how long it is

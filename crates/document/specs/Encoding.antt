@@ -5,6 +5,7 @@
 -- start p q         : where the strip of the place q starts in memory
 -- byteAt p x b q    : byte b of that strip, in data or in an array x; 0 past the end of x
 -- stripOf p x q     : that strip, whole
+-- columnIn p x j    : the column of node j in the array x
 -- baseAt p d b q    : the base symbol of the data d at byte offset b of the place q
 -- constantOf p i l  : the coupling constant of the lower strip at row i, local column l
 -- coupledAt p a q   : what is stored at q where the base symbols are a
@@ -65,8 +66,12 @@ module _ (p : Profile) where
   unfoldable pub stripOf : List ℕ → Place → List ℕ
   stripOf x q = slice x (start q) S
 
-  -- 'Node j has the point j, the field element with that number. One row of base symbols a(i,0)..a(i,n-1) is the list of
-  -- values, at the points 0..n-1, of a polynomial of degree below k. The data are the symbols with j < k, free.'
+  -- 'a node's column is its A strips, row 0 first': from (jA)S on, in one piece.
+  abbrev pub columnIn : List ℕ → ℕ → List ℕ
+  columnIn x j = slice x (j * A * S) (A * S)
+
+  -- 'Node j has the point j, the field element with that number. One row of base symbols a(i,0)..a(i,n-1) is the list
+  -- of values, at the points 0..n-1, of a polynomial of degree below k. The data are the symbols with j < k, free.'
   -- By Lagrange's formula: each data symbol of the row times its weight at the point j, added up.
   unfoldable pub baseAt : List ℕ → ℕ → Place → Byte
   baseAt d b q = sum bytes k (λ m. byteAt d b (place m (q .row .0)) ⊗ weight bytes k byte m (byte (q .node .0)))
@@ -75,7 +80,8 @@ module _ (p : Profile) where
   unfoldable pub constantOf : ℕ → ℕ → Byte
   constantOf i l = byte t
 
-  -- 'The stored strip x(i,j) is: a(i,j) where i = l; a(i,j) + a(partner) where i < l; a(i,j) + t·a(partner) where i > l.'
+  -- 'The stored strip x(i,j) is: a(i,j) where i = l; a(i,j) + a(partner) where i < l; a(i,j) + t·a(partner) where
+  -- i > l.'
   unfoldable pub coupledAt : (Place → Byte) → Place → Byte
   coupledAt a q =
       let i : ℕ = q .row .0 in

@@ -1,11 +1,11 @@
 -- 'Fields of a one-byte tag, a two-byte length (high byte first) and content': a message is field 01, the profile; a
--- field 02 with some content; and a field 03 for each place of some list. Document 01 has one such message, the download
--- bundle (Bundle.antt). What it says of its fields is said here of a message, since requests of document 02 add others:
--- the same fields 01 and 03, another field 02 and other places, refused by the same lines.
+-- field 02 with some content; and a field 03 for each place of some list. Document 01 has one such message, the
+-- download bundle (Bundle.antt). What it says of its fields is said here of a message, since requests of document 02
+-- add others: the same fields 01 and 03, another field 02 and other places, refused by the same lines.
 --
 -- A message is written, and compared by a reader with what is wanted: the profile p, the content of field 02, the
--- recording r and the places qs. A field starts with its tag and length, `opening`; its content follows. S is the length
--- of a strip.
+-- recording r and the places qs. A field starts with its tag and length, `opening`; its content follows. S is the
+-- length of a strip.
 --
 -- recordingBytes r                  : what identifies a recording, in bytes
 -- recordingLength                   : how many bytes that is

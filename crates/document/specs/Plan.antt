@@ -3,16 +3,11 @@
 -- isOwn A f j         : node j is another node of f's own group
 -- isDiagonal A f j    : node j lies in another group, and its row c on the diagonal: its local column is c
 -- isOffDiagonal A f j : node j lies in another group, at another local column
--- Walk                : the nodes that each of the three steps goes over, in their order
--- Complete n A f w    : each step of the walk w goes over each of its candidates once
--- walkOf p f          : document 01's walk: each step by rising node
 -- rowAt A f j         : the place of node j, row c
 -- pairsAt A f js      : for each of the nodes js its row c, then the partner of that place
--- stepTwo k w         : the nodes that step 2 lists
--- stepThree k w       : the nodes that step 3 lists
--- chosenOver k w      : the nodes of steps 2 and 3
--- nodesOver k w       : the nodes of the three steps
--- planOver A k f w    : the places of the three steps over the walk w
+-- firstStep p f       : the places of step 1
+-- secondStep p f      : the places of step 2
+-- thirdStep p f       : the places of step 3
 -- planned p f         : the planned places
 -- plannedAt p f i     : the planned place i, from 0
 -- priceOf n k A       : their number
@@ -21,6 +16,17 @@
 -- planTests p f x     : the refusals of planning past those of a profile, in their order
 -- planWith p f x      : planning into x with the profile p: the answer, and what x holds then
 -- planOf p f x        : the same for any numbers p
+--
+-- For the theorems, which hold whatever the order within a step:
+-- Walk                : the nodes that each of the three steps goes over, in their order
+-- Complete n A f w    : each step of the walk w goes over each of its candidates once
+-- walkOf p f          : document 01's walk: each step by rising node
+-- stepTwo k w         : the nodes that step 2 lists over the walk w
+-- stepThree k w       : the nodes that step 3 lists over it
+-- chosenOver k w      : the nodes of steps 2 and 3
+-- nodesOver k w       : the nodes of the three steps
+-- planOver A k f w    : the places of the three steps; over document 01's walk they are the planned places, which is
+--                       `Demand3Walk` in demands/specs/Plan.antt
 use mathlib.Core.Bool.{Bool, _&&_, not}
 use mathlib.Core.List.{List, [], _∷_, _++_, map}
 use Prim.Native.Nat.{ℕ, _+_, _-_, _*_, _/_}
@@ -68,46 +74,26 @@ module _ (A : ℕ) (f : Node) where
   pairsAt [] = []
   pairsAt (j ∷ js) = rowAt j ∷ partnerOf A (rowAt j) ∷ pairsAt js
 
--- The candidates of the three steps.
-pub record Walk : Type 0 where
-  pub own : List ℕ
-  pub diagonal : List ℕ
-  pub off-diagonal : List ℕ
+module _ (p : Profile) (f : Node) where
+  open Profile p using (n, k, a as A)
 
--- What the theorems about plans ask of a walk, whatever its order.
-pub record Complete (n A : ℕ) (f : Node) (w : Walk) : Type 0 where
-  pub own : ListsOnce n (isOwn A f) (w .own)
-  pub diagonal : ListsOnce n (isDiagonal A f) (w .diagonal)
-  pub off-diagonal : ListsOnce n (isOffDiagonal A f) (w .off-diagonal)
+  -- 1. 'row c of every other node of f's own group, by rising node;'
+  abbrev pub firstStep : List Place
+  firstStep = map (rowAt A f) (rising n (isOwn A f))
 
--- Step 1 'by rising node', steps 2 and 3 'rising'.
-abbrev pub walkOf : Profile → Node → Walk
-walkOf p f = record {
-  own = rising (p .n) (isOwn (p .a) f);
-  diagonal = rising (p .n) (isDiagonal (p .a) f);
-  off-diagonal = rising (p .n) (isOffDiagonal (p .a) f);
-}
+  -- 2. 'row c of the node with local column c in each other group, rising, until k places are listed in this step or
+  -- the groups run out;'
+  abbrev pub secondStep : List Place
+  secondStep = map (rowAt A f) (take k (rising n (isDiagonal A f)))
 
--- Step 2: '.. rising, until k places are listed in this step or the groups run out'.
-abbrev pub stepTwo : ℕ → Walk → List ℕ
-stepTwo k w = take k (w .diagonal)
+  -- 3. 'if step 2 gave fewer than k: each remaining node outside f's group whose local column is not c, rising, with
+  -- two places: its row c, then the partner of that place; until steps 2 and 3 have given k nodes.'
+  abbrev pub thirdStep : List Place
+  thirdStep = pairsAt A f (take (k - length secondStep) (rising n (isOffDiagonal A f)))
 
--- Step 3: 'if step 2 gave fewer than k: .. until steps 2 and 3 have given k nodes'.
-abbrev pub stepThree : ℕ → Walk → List ℕ
-stepThree k w = take (k - length (stepTwo k w)) (w .off-diagonal)
-
-abbrev pub chosenOver : ℕ → Walk → List ℕ
-chosenOver k w = stepTwo k w ++ stepThree k w
-
-abbrev pub nodesOver : ℕ → Walk → List ℕ
-nodesOver k w = w .own ++ chosenOver k w
-
--- 'The plan lists, in this order': row c at the nodes of step 1, row c at those of step 2, two places at those of step 3.
-unfoldable pub planOver : ℕ → ℕ → Node → Walk → List Place
-planOver A k f w = map (rowAt A f) (w .own) ++ (map (rowAt A f) (stepTwo k w) ++ pairsAt A f (stepThree k w))
-
-unfoldable pub planned : Profile → Node → List Place
-planned p f = planOver (p .a) (p .k) f (walkOf p f)
+  -- 'The plan lists, in this order:'
+  unfoldable pub planned : List Place
+  planned = firstStep ++ (secondStep ++ thirdStep)
 
 unfoldable pub plannedAt : Profile → Node → ℕ → Place
 plannedAt p f i = placeAt (planned p f) i
@@ -140,3 +126,42 @@ planWith p f x =
 
 unfoldable pub planOf : Numbers → ℕ → List ℕ → Answer × List ℕ
 planOf p f x = onAccepted p (λ r. (Refused r, x)) (λ p. planWith p (record { 0 = f }) x)
+
+-- ---- for the theorems: the same steps over candidates in any order
+-- The candidates of the three steps.
+pub record Walk : Type 0 where
+  pub own : List ℕ
+  pub diagonal : List ℕ
+  pub off-diagonal : List ℕ
+
+-- What the theorems about plans ask of a walk, whatever its order.
+pub record Complete (n A : ℕ) (f : Node) (w : Walk) : Type 0 where
+  pub own : ListsOnce n (isOwn A f) (w .own)
+  pub diagonal : ListsOnce n (isDiagonal A f) (w .diagonal)
+  pub off-diagonal : ListsOnce n (isOffDiagonal A f) (w .off-diagonal)
+
+-- Step 1 'by rising node', steps 2 and 3 'rising'.
+abbrev pub walkOf : Profile → Node → Walk
+walkOf p f = record {
+  own = rising (p .n) (isOwn (p .a) f);
+  diagonal = rising (p .n) (isDiagonal (p .a) f);
+  off-diagonal = rising (p .n) (isOffDiagonal (p .a) f);
+}
+
+-- Step 2: 'until k places are listed in this step or the groups run out'.
+abbrev pub stepTwo : ℕ → Walk → List ℕ
+stepTwo k w = take k (w .diagonal)
+
+-- Step 3: 'if step 2 gave fewer than k: .. until steps 2 and 3 have given k nodes'.
+abbrev pub stepThree : ℕ → Walk → List ℕ
+stepThree k w = take (k - length (stepTwo k w)) (w .off-diagonal)
+
+abbrev pub chosenOver : ℕ → Walk → List ℕ
+chosenOver k w = stepTwo k w ++ stepThree k w
+
+abbrev pub nodesOver : ℕ → Walk → List ℕ
+nodesOver k w = w .own ++ chosenOver k w
+
+-- Row c at the nodes of step 1, row c at those of step 2, two places at those of step 3.
+unfoldable pub planOver : ℕ → ℕ → Node → Walk → List Place
+planOver A k f w = map (rowAt A f) (w .own) ++ (map (rowAt A f) (stepTwo k w) ++ pairsAt A f (stepThree k w))

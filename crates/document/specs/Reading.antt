@@ -4,11 +4,9 @@
 -- coefficientAt p q r       : by what the data symbol at the place r is multiplied in the symbol stored at q
 -- dataPlace p e             : the place of data symbol e, counted row by row
 -- dataIndex p q             : the number of the data symbol at the place q, counted so
--- namedPlace p nodes q      : q, with its node number taken for an index into the list of nodes
--- joinedPlace p nodes z     : the place of strip z of the named nodes' columns joined in list order
--- joinedColumns p nodes x   : those columns of the array x
--- TwoData p nodes           : some two different data give equal columns on the named nodes
--- coefficientLine p q                : the coefficients of all data symbols in what is stored at the place q
+-- joinedColumns p nodes x   : the columns of the array x at the named nodes, joined in list order
+-- joinedPlace p nodes z     : the place of strip z of them
+-- coefficientLine p q       : the coefficients of all data symbols in what is stored at the place q
 -- squareOf p nodes          : the coefficient square: a line for each strip of the joined columns
 -- eliminationOf p nodes     : its elimination, beside the unit square
 -- ambiguous p nodes         : the test of refusal 10
@@ -20,12 +18,14 @@
 -- readOf p nodes x y        : the same for any numbers p
 --
 -- From `square`: eliminated rows columns s t is how the elimination of s beside t ends, with `Regular` and what became
--- of t if each column has a pivot. That the test is true exactly where some two different data give equal columns, and
--- that the data read back are otherwise the only ones with these columns, is demand 2.
-use mathlib.Core.Path.{_≡_}
-use mathlib.Core.Logic.{_≢_}
+-- of t if each column has a pivot.
+--
+-- To be believed is joinedColumns. coefficientAt, squareOf, eliminationOf, ambiguous, inverseOf and dataFrom only
+-- compute: demand 2 (demands/specs/Reading.antt) says that the test of refusal 10 is true exactly where some two
+-- different data give equal columns, and that the data read back are otherwise the only ones with these columns. What
+-- the other tests come to is said line by line there too.
 use mathlib.Core.Bool.{Bool, true, false, _&&_, not}
-use mathlib.Core.List.{List, [], _∷_}
+use mathlib.Core.List.{List, [], _∷_, _++_}
 use Prim.Native.Nat.{ℕ, zero, suc, _+_, _*_, _/_, _%_}
 use native.Mathlib.Decide.{ℕ-discrete}
 use lib.Dec.{eqb, leb, ltb}
@@ -49,7 +49,7 @@ use Rattle.document.specs.Refusals.{Test, tried}
 use Rattle.document.specs.Profile.{onAccepted}
 use Rattle.document.specs.Places.{place}
 use Rattle.document.specs.ByteField.{bytes, Byte, byte, number}
-use Rattle.document.specs.Encoding.{byteAt, coupledAt, laidOut, Data, encoded}
+use Rattle.document.specs.Encoding.{columnIn, coupledAt, laidOut}
 
 infixl 70 _⊗_
 open Field bytes using (𝟘, mul as _⊗_)
@@ -78,25 +78,14 @@ module _ (p : Profile) where
   abbrev pub dataIndex : Place → ℕ
   dataIndex q = q .row .0 * k + q .node .0
 
-  -- 'those nodes' columns joined in list order'; 'a node's column is its A strips, row 0 first': the m-th named node
-  -- stands where node m would stand in memory.
-  abbrev pub namedPlace : List ℕ → Place → Place
-  namedPlace nodes q = place (getD nodes (q .node .0) 0) (q .row .0)
-
-  abbrev pub joinedPlace : List ℕ → ℕ → Place
-  joinedPlace nodes z = namedPlace nodes (place (z / A) (z % A))
-
+  -- 'those nodes' columns joined in list order'
   unfoldable pub joinedColumns : List ℕ → List ℕ → List ℕ
-  joinedColumns nodes x = laidOut p k (λ b q. byteAt p x b (namedPlace nodes q))
+  joinedColumns [] x = []
+  joinedColumns (j ∷ nodes) x = columnIn p x j ++ joinedColumns nodes x
 
-  -- 'some two different data give equal columns on these nodes'
-  pub record TwoData (nodes : List ℕ) : Type 0 where
-    pub first : List ℕ
-    pub second : List ℕ
-    pub first-data : Data p first
-    pub second-data : Data p second
-    pub differ : first ≢ second
-    pub alike : joinedColumns nodes (encoded p first) ≡ joinedColumns nodes (encoded p second)
+  -- 'a node's column is its A strips, row 0 first': strip z is row z mod A of the node z div A of the list.
+  abbrev pub joinedPlace : List ℕ → ℕ → Place
+  joinedPlace nodes z = place (getD nodes (z / A) 0) (z % A)
 
   unfoldable pub coefficientLine : Place → Line
   coefficientLine q = record { c = listed (k * A) (λ e. number (coefficientAt q (dataPlace e))) }

@@ -11,8 +11,9 @@
 --                                   then
 -- rebuildOf p f r b y             : the same for any numbers p
 --
--- The algebra's rebuiltAt computes the column; that it is the one which every encoded array with these strips has is
--- demand 3.
+-- Nothing in this file has to be believed. positionOf, givenAt, rebuiltOver and firstStrip only compute, the column by
+-- the algebra's rebuiltAt: demand 3 (demands/specs/Rebuild.antt) says that it is the one which every encoded array with
+-- the bundle's strips has. What the tests come to is said line by line there too.
 use mathlib.Core.Bool.{not, cond}
 use mathlib.Core.List.{List, [], _∷_}
 use Prim.Native.Nat.{ℕ, suc, _+_, _*_}

@@ -51,10 +51,10 @@ module _ (p : Profile) where
   unfoldable pub foundFrom : ℕ → ℕ → ℕ
   foundFrom start most = firstIn failsAt start (lookedAt start most)
 
-  -- 'failing, with position (counted from the first set of all, whatever the start) and the set written out; done; open.
-  -- The set goes to a lent buffer of k bytes, which stays as it was in the other two. With it goes the number of sets
-  -- looked at: up to and with the first failing one, if it is among the first B from the start, else the smaller of B and
-  -- what was left. Without a failing set among those it is done if none is left after that, otherwise open.'
+  -- 'failing, with position (counted from the first set of all, whatever the start) and the set written out; done;
+  -- open. The set goes to a lent buffer of k bytes, which stays as it was in the other two. With it goes the number of
+  -- sets looked at: up to and with the first failing one, if it is among the first B from the start, else the smaller
+  -- of B and what was left. Without a failing set among those it is done if none is left after that, otherwise open.'
   unfoldable pub resultOf : ℕ → ℕ → List ℕ → Surveyed × List ℕ
   resultOf start most x =
       let looked : ℕ = lookedAt start most in
@@ -62,7 +62,8 @@ module _ (p : Profile) where
       cond (ltb found (start + looked)) (Failing found (found - start + 1), setAt 0 n k found)
       (cond (eqb (start + looked) (sets n k)) (Done looked, x) (Open looked, x))
 
--- The refusals of a survey past 1, 2 and 3: 4 for a 'survey start above the number of sets', 5 for a set not of k bytes.
+-- The refusals of a survey past 1, 2 and 3: 4 for a 'survey start above the number of sets', 5 for a set not of k
+-- bytes.
 unfoldable pub surveyTests : Profile → ℕ → List ℕ → List Test
 surveyTests p start x =
     record { refusal = OutOfRange; holds = ltb (sets (p .n) (p .k)) start }

@@ -1,4 +1,5 @@
-// The types that the crates built on this one share, in document 01's words, and the profile's constructor that refuses.
+// The types that the crates built on this one share, in document 01's words, and the profile's constructor that
+// refuses.
 ghost use mathlib.Core.Path.{_≡_};
 ghost use Prim.Native.Nat.{_/_, _%_, _<_};
 ghost use Rattle.document.specs.Refusals.{numberOf, indexOf};
@@ -226,7 +227,8 @@ impl Profile {
         (q.node.0 * self.a + q.row.0) * self.s
     }
 
-    // The coupling constant of the lower strip at a row and a local column: the only function that computes with a profile's t.
+    // The coupling constant of the lower strip at a row and a local column: the only function that computes with a
+    // profile's t.
     pub fn constant(self, i: Row, l: usize) -> u8
         requires { ⌜ Accepted self ⌝ }
         ensures { λ r. ⌜ r ≡ number (constantOf self (i .0) l) ⌝ }

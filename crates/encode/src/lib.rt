@@ -20,7 +20,7 @@ fn put_parity(column: &mut [u8], p: Profile, input: &[u8], denominators: &[u8], 
     ensures { λ _. ⌜ now (column .exit) ≡ columnOf p (baseAt p (now (input .entry))) j ⌝ }
 {
     let k = p.k;
-    let mut weights = [0u8; 24];
+    let mut weights = [0u8; Profile::MAX_NODES];
     coefficients::parity_weights(denominators, j, &mut weights[..k]);
     strips::combine(column, input, 0, p.a * p.s, &weights[..k]);
 }
@@ -35,7 +35,7 @@ fn put_rows(array: &mut [u8], p: Profile, input: &[u8])
     let n = p.n;
     let width = p.a * p.s;
     let first = k * width;
-    let mut denominators = [0u8; 24];
+    let mut denominators = [0u8; Profile::MAX_NODES];
     coefficients::data_denominators(&mut denominators[..k]);
     strips::copy(&mut array[..first], input, 0);
     let mut j = k;

@@ -6,3 +6,4 @@ pub mod Tables
 pub mod Powers
 pub mod Ring
 pub mod Lists
+pub mod Laws

@@ -56,8 +56,8 @@ unfoldable pub log-from : ℕ → ℕ → ℕ → ℕ → ℕ
 log-from zero n p a = 0
 log-from (suc m) n p a = elim (eqb p a) [ true ↦ n | false ↦ log-from m (suc n) (double p) a ]
 
--- 'logarithms lie in 0..254, so that of 1 is 0, and the entry for 0, which has no logarithm, holds 0.' The power at
--- the logarithm of any byte but 0 is that byte: `power-log` in proofs/.
+-- 'logarithms lie in 0..254, so that of 1 is 0, and the entry for 0, which has no logarithm, holds 0.' LogarithmLaws in
+-- Laws.antt says so of this search, and that it finds logarithms.
 unfoldable pub log : ℕ → ℕ
 log a = log-from 255 0 1 a
 
@@ -74,8 +74,7 @@ squares zero a = 1
 squares (suc n) a = timesNext (squares n) (a ⊗ a)
 
 -- 'Inverse of zero is given as 0; no other byte has inverse 0.' This is the 254th power, 254 being 2 + 4 + .. + 128.
--- The 255th power of every other byte is 1, so that the product with this is 1: `mul-inverse`, `inverse-zero` and
--- `inverse-above` in proofs/.
+-- The 255th power of every other byte is 1, so that the product with this is 1: InverseLaws in Laws.antt.
 unfoldable pub inverse : ℕ → ℕ
 inverse a = squares 7 a
 

@@ -20,7 +20,8 @@ use Rattle.document.specs.declared.Profile.{Profile}
 use Rattle.document.specs.Profile.{Accepted}
 use Rattle.document.specs.Places.{Within}
 use Rattle.document.proofs.Bounds.{partner-within}
-use Rattle.document.proofs.Reading.{rising-below, joined-within}
+use Rattle.document.proofs.Joined.{rising-below}
+use Rattle.document.proofs.Reading.{joined-within}
 use Rattle.lists.specs.Positions.{positionIn}
 use Rattle.lists.proofs.Positions.{position-here, position-later, position-le, position-back}
 use Rattle.half_pairs.specs.HalfPairs.{positionTable, named, partnerAt}

@@ -29,12 +29,13 @@ use Rattle.document.specs.Profile.{Accepted}
 use Rattle.document.specs.Places.{place}
 use Rattle.document.specs.ByteField.{bytes, Byte, byte}
 use Rattle.document.specs.Encoding.{byteAt, baseAt, factorAt, laidOut, Data, encoded}
-use Rattle.document.specs.Reading.{joinedColumns, TwoData, ambiguous}
+use Rattle.document.specs.Reading.{joinedColumns, ambiguous}
 use Rattle.document.proofs.Bounds.{A>0}
-use Rattle.document.proofs.Arrays.{laid-byte}
+use Rattle.document.proofs.Arrays.{laid-byte, laid-data, encoded-stored}
 use Rattle.document.proofs.Rows.{row-word, row-data}
 use Rattle.document.proofs.Columns.{array, coupled-code, nodes-distinct, encoded-at}
-use Rattle.document.proofs.Reading.{laid-data, data-ext, joined-byte, joined-data, joined-only, two-ambiguous, ambiguous-two}
+use Rattle.document.proofs.Joined.{joined-byte, joined-data, joined-only}
+use Rattle.document.proofs.Reading.{data-ext, TwoEncoded, two-ambiguous, ambiguous-two}
 use Rattle.lists.specs.Positions.{positionIn}
 use Rattle.half_pairs.specs.HalfPairs.{named, isNamed, partnerAt, halfPairs, halfPairAt, systemAt, joinedAt}
 use Rattle.half_pairs.proofs.Named.{named-choice, named-positions}
@@ -106,7 +107,7 @@ module _ (p : Profile) (nodes : List ℕ) where
       stores i q r h =
           ap (λ (m : ℕ). byte (getD x ((m * A + i) * S + b) 0)) (positions .there q h)
           ∙ ap (λ (y : List ℕ). byte (getD y ((q * A + i) * S + b) 0)) (sym columns)
-          ∙ joined-byte p nodes (encoded p d) (q * A + i) b (digits-lt h r) l
+          ∙ joined-byte p (encoded-stored p d) rises (q * A + i) b (digits-lt h r) l
           ∙ ap₂ (λ (m r : ℕ). byteAt p (encoded p d) b (place (named nodes m) r)) (digits-div q r) (digits-mod q r)
           ∙ encoded-at p acc d b l i (named nodes q) r (choice .below q h)
 
@@ -198,7 +199,7 @@ module _ (p : Profile) (nodes : List ℕ) where
         go : (v : Bool) → ambiguous p nodes ≡ v → v ≡ false
         go false e = refl
         go true e =
-            let two : TwoData p nodes = ambiguous-two p acc nodes rises e in
+            let two : TwoEncoded p nodes = ambiguous-two p acc nodes rises e in
             absurd (two .differ (data-fixed I _ _ (two .first-data) (two .second-data) (two .alike)))
 
     -- ---- the system takes a vector other than zero to zero
@@ -242,7 +243,7 @@ module _ (p : Profile) (nodes : List ℕ) where
     unfolding zeros stored
     zeros-stored i j = ap (λ (y : Byte). 𝟘 ⊕ y) (mul-zero bytes _) ∙ add-zero bytes 𝟘
 
-    pub kernel-two : Kernel bytes U U (systemAt p nodes) → TwoData p nodes
+    pub kernel-two : Kernel bytes U U (systemAt p nodes) → TwoEncoded p nodes
     unfolding zeros
     kernel-two null = record {
       first = dataOf a;
@@ -253,17 +254,17 @@ module _ (p : Profile) (nodes : List ℕ) where
           (sym (laid-base a (blank .word) 0 (blank .row) (blank .node) some (blank .row-lt) (blank .node-lt))
           ∙ ap (λ (d : List ℕ). baseAt p d 0 (place (blank .node) (blank .row))) same
           ∙ laid-base zeros zeros-word 0 (blank .row) (blank .node) some (blank .row-lt) (blank .node-lt));
-      alike = joined-only p nodes _ _ (joined-data p nodes _) (λ z b h l.
+      alike = joined-only p (encoded-stored p _) rises _ (joined-data p (encoded-stored p _) rises) (λ z b h l.
           let r : z % A < A = mod-lt z (A>0 p acc) in
           let m : z / A < k = div-lt-iff-lt-mul (A>0 p acc) .1 h in
           laid-stored a (blank .word) b (z % A) (named nodes (z / A)) l r (choice .below (z / A) m)
           ∙ blank .blank (z % A) (z / A) r m ∙ sym (zeros-stored (z % A) (named nodes (z / A)))
           ∙ sym (laid-stored zeros zeros-word b (z % A) (named nodes (z / A)) l r (choice .below (z / A) m))
-          ∙ sym (joined-byte p nodes _ z b h l));
+          ∙ sym (joined-byte p (encoded-stored p _) rises z b h l));
     }
       where
-        blank : Blank bytes (coupled-code p acc) (named nodes) (positionIn nodes) choice positions U (halfPairAt p nodes)
-            selected
+        blank : Blank bytes (coupled-code p acc) (named nodes) (positionIn nodes) choice positions U
+            (halfPairAt p nodes) selected
         blank =
             blank-array bytes (coupled-code p acc) (named nodes) (positionIn nodes) choice positions U
             (halfPairAt p nodes) selected null

@@ -1,9 +1,9 @@
 -- The half pairs of a reading: the strips read whose partner, on a node that is not named, is not. The base symbols of
 -- their partners are the unknowns of a small system, and all other base symbols follow from them: the equations are in
--- algebra/specs/HalfPairs.antt. That the system decides as document 01's coefficient square does is `stuck-ambiguous` and
--- `regular-clear` in proofs/System.antt.
+-- algebra/specs/HalfPairs.antt. That the system decides as document 01's coefficient square does is `stuck-ambiguous`
+-- and `regular-clear` in proofs/System.antt.
 --
--- positionTable nodes        : where each node from 0 to 23 stands among the nodes
+-- positionTable nodes        : where each node below maxNodes stands among the nodes
 -- named nodes q              : the q-th named node
 -- isNamed k nodes j          : the test whether node j is one of the k named nodes
 -- weightRow k nodes j        : the weight at node j of each of the k named nodes, where j is none of them; otherwise zeros,
@@ -13,12 +13,12 @@
 -- halfPairs p nodes          : the numbers of the half pairs, rising
 -- halfPairAt p nodes e       : the e-th half pair
 -- nodeWeights p nodes        : the rows of weights of all nodes, node after node
--- weightTable p nodes        : the same in a table of 576 bytes, room for 24 times 24, with zeros past them
+-- weightTable p nodes        : the same in a table with room for maxNodes times maxNodes, with zeros past them
 -- coefficientIn p nodes r y  : the coefficient of the partner of strip y in the equation for the base symbol at the place
 --                              r; 𝟘 where y is in another row
 -- systemAt p nodes e f       : the entry of the system for the e-th and the f-th half pair
--- systemLine p nodes e       : its line e, in 80 bytes: zeros past its entries
--- systemSquare p nodes       : the system in an array of 80 lines: zeros past its lines
+-- systemLine p nodes e       : its line e, in `side` bytes: zeros past its entries
+-- systemSquare p nodes       : the system in an array of `side` lines: zeros past its lines
 -- systemEnd p nodes          : how its elimination ends
 -- HalfPairsOf p nodes h      : h holds what the system of the named nodes is made of: zeros past the half pairs
 -- joinedAt p nodes x b i j   : byte b of the strip that the joined columns x have for row i of the named node j
@@ -36,11 +36,12 @@ use Rattle.algebra.specs.Pick.{pick}
 use Rattle.algebra.specs.Coupling.{Array}
 use Rattle.algebra.specs.HalfPairs.{weightAt, halfFactor, system}
 use Rattle.square.specs.declared.Line.{Line}
-use Rattle.square.specs.Steps.{filled, unitSquare}
+use Rattle.square.specs.Steps.{side, filled, unitSquare}
 use Rattle.square.specs.declared.Eliminated.{Eliminated}
 use Rattle.square.specs.Elimination.{eliminated}
 use Rattle.document.specs.declared.Profile.{Profile}
 use Rattle.document.specs.declared.Place.{Place}
+use Rattle.document.specs.Profile.{maxNodes}
 use Rattle.document.specs.Places.{partnerOf}
 use Rattle.document.specs.ByteField.{bytes, Byte, byte, number}
 use Rattle.document.specs.Encoding.{factorAt}
@@ -53,7 +54,7 @@ infixl 70 _⊗_
 open Field bytes using (𝟘, mul as _⊗_)
 
 unfoldable pub positionTable : List ℕ → List ℕ
-positionTable nodes = listed 24 (positionIn nodes)
+positionTable nodes = listed maxNodes (positionIn nodes)
 
 abbrev pub named : List ℕ → ℕ → ℕ
 named nodes q = getD nodes q 0
@@ -83,7 +84,7 @@ module _ (p : Profile) (nodes : List ℕ) where
   nodeWeights = listed (n * k) (λ e. getD (weightRow k nodes (e / k)) (e % k) 0)
 
   unfoldable pub weightTable : List ℕ
-  weightTable = nodeWeights ++ drop (n * k) (replicate 576 0)
+  weightTable = nodeWeights ++ drop (n * k) (replicate (maxNodes * maxNodes) 0)
 
   -- The algebra's `partnerCoefficient`, where r is the partner of a strip.
   unfoldable pub coefficientIn : Place → ℕ → Byte
@@ -97,18 +98,18 @@ module _ (p : Profile) (nodes : List ℕ) where
   systemAt = system bytes A k byte (factorAt p) (named nodes) (positionIn nodes) halfPairAt
 
   unfoldable pub systemLine : ℕ → List ℕ
-  systemLine e = listed 80 (λ f. cond (ltb f (length halfPairs)) (number (systemAt e f)) 0)
+  systemLine e = listed side (λ f. cond (ltb f (length halfPairs)) (number (systemAt e f)) 0)
 
   unfoldable pub systemSquare : List Line
   systemSquare =
-      filled (λ e. record { c = systemLine e }) (replicate 80 (record { c = replicate 80 0 })) (length halfPairs)
+      filled (λ e. record { c = systemLine e }) (replicate side (record { c = replicate side 0 })) (length halfPairs)
 
   abbrev pub systemEnd : Eliminated
-  systemEnd = eliminated (length halfPairs) (length halfPairs) systemSquare (unitSquare 80)
+  systemEnd = eliminated (length halfPairs) (length halfPairs) systemSquare (unitSquare side)
 
   pub record HalfPairsOf (h : HalfPairs) : Type 0 where
     pub positions : h .positions ≡ positionTable nodes
-    pub halves : h .halves ≡ put (replicate 80 0) 0 halfPairs
+    pub halves : h .halves ≡ put (replicate side 0) 0 halfPairs
     pub count : h .count ≡ length halfPairs
     pub table : h .table ≡ weightTable
 

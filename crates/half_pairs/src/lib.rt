@@ -1,12 +1,13 @@
 // The half pairs of a reading, the strips of the named nodes' columns whose partner is not read, and the system whose
-// unknowns are the base symbols of those partners. It has a line for each half pair, where document 01's coefficient square
-// has one for each strip.
+// unknowns are the base symbols of those partners. It has a line for each half pair, where document 01's coefficient
+// square has one for each strip.
 ghost use mathlib.Core.Path.{_≡_};
 ghost use mathlib.Core.Bool.{false};
 ghost use Prim.Native.Nat.{_*_, _<_};
 ghost use lib.ListN.{length};
 ghost use Rattle.lists.specs.Put.{Wrote};
 ghost use Rattle.ksets.specs.Sets.{Rising};
+ghost use Rattle.square.specs.Steps.{side};
 ghost use Rattle.document.specs.Profile.{Accepted};
 ghost use Rattle.document.specs.Places.{Within};
 ghost use Rattle.document.specs.ByteField.{number};
@@ -20,24 +21,28 @@ use document::Place;
 use document::Profile;
 use document::Row;
 use square::Line;
+use square::SIDE;
 
-// What the system of a reading is made of: where each node stands in the list of the named nodes, the numbers of the half
-// pairs and how many there are, and the weights at all nodes.
+// A weight at each node of each named node.
+const WEIGHTS: usize = Profile::MAX_NODES * Profile::MAX_NODES;
+
+// What the system of a reading is made of: where each node stands in the list of the named nodes, the numbers of the
+// half pairs and how many there are, and the weights at all nodes.
 pub struct HalfPairs {
-    pub positions: [u8; 24],
-    pub halves: [u8; 80],
+    pub positions: [u8; Profile::MAX_NODES],
+    pub halves: [u8; SIDE],
     pub count: usize,
-    pub table: [u8; 576],
+    pub table: [u8; WEIGHTS],
 }
 
 // Where each node that a profile can have stands in the list; its length if it does not.
-fn positions(p: Profile, nodes: &[u8]) -> [u8; 24]
+fn positions(p: Profile, nodes: &[u8]) -> [u8; Profile::MAX_NODES]
     requires { ⌜ Accepted p × Rising (p .n) (p .k) (now nodes) ⌝ }
     ensures { λ r. ⌜ r ≡ positionTable (now (nodes .entry)) ⌝ }
 {
     let k = p.k;
     let absent = k as u8;
-    let mut table = [absent; 24];
+    let mut table = [absent; Profile::MAX_NODES];
     let mut q: usize = 0;
     while q < k {
         let j = nodes[q] as usize;
@@ -80,9 +85,9 @@ fn is_half_pair(p: Profile, nodes: &[u8], positions: &[u8], z: usize) -> bool
     !(q < p.k)
 }
 
-// Writes the numbers of the half pairs, and returns how many there are. `out` has room for all strips, at most 80.
+// Writes the numbers of the half pairs, and returns how many there are. `out` has room for all strips.
 fn list_half_pairs(out: &mut [u8], p: Profile, nodes: &[u8], positions: &[u8]) -> usize
-    requires { ⌜ Accepted p × Rising (p .n) (p .k) (now nodes) × (length (now out) ≡ 80) ⌝ }
+    requires { ⌜ Accepted p × Rising (p .n) (p .k) (now nodes) × (length (now out) ≡ side) ⌝ }
     requires { ⌜ now positions ≡ positionTable (now nodes) ⌝ }
     ensures { λ r. ⌜ Wrote (now (out .entry)) 0 (halfPairs p (now (nodes .entry))) r (now (out .exit)) ⌝ }
 {
@@ -125,7 +130,7 @@ fn put_weights(out: &mut [u8], p: Profile, nodes: &[u8], positions: &[u8])
 {
     let k = p.k;
     let n = p.n;
-    let mut denominators = [0u8; 24];
+    let mut denominators = [0u8; Profile::MAX_NODES];
     coefficients::denominators(nodes, &mut denominators[..k]);
     let mut j: usize = 0;
     while j < n {
@@ -144,18 +149,18 @@ fn put_weights(out: &mut [u8], p: Profile, nodes: &[u8], positions: &[u8])
 }
 
 // The same, in a table that a call makes once.
-fn weight_table(p: Profile, nodes: &[u8], positions: &[u8]) -> [u8; 576]
+fn weight_table(p: Profile, nodes: &[u8], positions: &[u8]) -> [u8; WEIGHTS]
     requires { ⌜ Accepted p × Rising (p .n) (p .k) (now nodes) × (now positions ≡ positionTable (now nodes)) ⌝ }
     ensures { λ r. ⌜ r ≡ weightTable p (now (nodes .entry)) ⌝ }
 {
     let width = p.n * p.k;
-    let mut table = [0u8; 576];
+    let mut table = [0u8; WEIGHTS];
     put_weights(&mut table[..width], p, nodes, positions);
     table
 }
 
-// The coefficient of the half pair y's partner in the equation for the base symbol at r, which is not on a named node: the
-// factor with which the partner stands in strip y, times the weight of y's node; 0 where y is in another row.
+// The coefficient of the half pair y's partner in the equation for the base symbol at r, which is not on a named node:
+// the factor with which the partner stands in strip y, times the weight of y's node; 0 where y is in another row.
 fn partner_coefficient(p: Profile, nodes: &[u8], table: &[u8], r: Place, y: usize) -> u8
     requires { ⌜ Accepted p × Rising (p .n) (p .k) (now nodes) × (y < p .k * p .a) ⌝ }
     requires { ⌜ Within p r × (isNamed (p .k) (now nodes) (r .node .0) ≡ false) ⌝ }
@@ -172,15 +177,15 @@ fn partner_coefficient(p: Profile, nodes: &[u8], table: &[u8], r: Place, y: usiz
     gf256::mul(c, table[r.node.0 * p.k + y / p.a])
 }
 
-// Line e of the system: the coefficient of each half pair's partner in the equation for that of the e-th half pair, and 1
-// more for its own.
-fn system_line(p: Profile, nodes: &[u8], table: &[u8], halves: &[u8], e: usize) -> [u8; 80]
+// Line e of the system: the coefficient of each half pair's partner in the equation for that of the e-th half pair, and
+// 1 more for its own.
+fn system_line(p: Profile, nodes: &[u8], table: &[u8], halves: &[u8], e: usize) -> [u8; SIDE]
     requires { ⌜ Accepted p × Rising (p .n) (p .k) (now nodes) × (now table ≡ weightTable p (now nodes)) ⌝ }
     requires { ⌜ (now halves ≡ halfPairs p (now nodes)) × (e < length (now halves)) ⌝ }
     ensures { λ r. ⌜ r ≡ systemLine p (now (nodes .entry)) e ⌝ }
 {
     let r = joined_partner(p, nodes, halves[e] as usize);
-    let mut c = [0u8; 80];
+    let mut c = [0u8; SIDE];
     let mut f: usize = 0;
     while f < halves.len() {
         let v = partner_coefficient(p, nodes, table, r, halves[f] as usize);
@@ -192,12 +197,12 @@ fn system_line(p: Profile, nodes: &[u8], table: &[u8], halves: &[u8], e: usize) 
 }
 
 // The system: a line for each half pair. Lines past them hold zeros.
-fn system_square(p: Profile, nodes: &[u8], table: &[u8], halves: &[u8]) -> [Line; 80]
+fn system_square(p: Profile, nodes: &[u8], table: &[u8], halves: &[u8]) -> [Line; SIDE]
     requires { ⌜ Accepted p × Rising (p .n) (p .k) (now nodes) × (now table ≡ weightTable p (now nodes)) ⌝ }
     requires { ⌜ now halves ≡ halfPairs p (now nodes) ⌝ }
     ensures { λ r. ⌜ r ≡ systemSquare p (now (nodes .entry)) ⌝ }
 {
-    let mut s = [Line { c: [0u8; 80] }; 80];
+    let mut s = [Line { c: [0u8; SIDE] }; SIDE];
     let mut e: usize = 0;
     while e < halves.len() {
         let c = system_line(p, nodes, table, halves, e);
@@ -207,14 +212,15 @@ fn system_square(p: Profile, nodes: &[u8], table: &[u8], halves: &[u8]) -> [Line
     s
 }
 
-// The half pairs of the named nodes and what belongs to them, once for a call. Past the half pairs `halves` holds zeros.
+// The half pairs of the named nodes and what belongs to them, once for a call. Past the half pairs `halves` holds
+// zeros.
 pub fn of_nodes(p: Profile, nodes: &[u8]) -> HalfPairs
     requires { ⌜ Accepted p × Rising (p .n) (p .k) (now nodes) ⌝ }
     ensures { λ r. ⌜ HalfPairsOf p (now (nodes .entry)) r ⌝ }
 {
     let positions = positions(p, nodes);
     let table = weight_table(p, nodes, &positions);
-    let mut halves = [0u8; 80];
+    let mut halves = [0u8; SIDE];
     let count = list_half_pairs(&mut halves, p, nodes, &positions);
     HalfPairs {
         positions: positions,
@@ -225,7 +231,7 @@ pub fn of_nodes(p: Profile, nodes: &[u8]) -> HalfPairs
 }
 
 // The system, made of them.
-pub fn small_system(p: Profile, nodes: &[u8], h: HalfPairs) -> [Line; 80]
+pub fn small_system(p: Profile, nodes: &[u8], h: HalfPairs) -> [Line; SIDE]
     requires { ⌜ Accepted p × Rising (p .n) (p .k) (now nodes) × HalfPairsOf p (now nodes) h ⌝ }
     ensures { λ r. ⌜ r ≡ systemSquare p (now (nodes .entry)) ⌝ }
 {

@@ -1,6 +1,7 @@
 -- 'Reading back and the survey': 'The survey looks at the sets of k nodes in lexicographic order, starting at a given
 -- position (0 is the first)'. A set is the list of its nodes, rising.
 --
+-- maxNodes             : the most nodes that the functions take
 -- sets n k             : the number of sets of k of n nodes
 -- setAt b n k pos      : the set at a position in lexicographic order, of k of the n nodes b, b + 1, ..
 -- rankOf b n set       : the position of a set of some of the n nodes b, b + 1, ..
@@ -17,6 +18,10 @@ use Prim.Native.Nat.{ℕ, zero, suc, _+_, _-_, _≤_, _<_}
 use lib.Dec.{eqb, leb, ltb}
 use lib.ListN.{length}
 use Rattle.lists.specs.Listed.{listed}
+
+-- 'The ceilings are 24 nodes, ..'
+abbrev pub maxNodes : ℕ
+maxNodes = 24
 
 -- 'The number of sets follows Pascal's rule: with or without the last node'
 unfoldable pub sets : ℕ → ℕ → ℕ

@@ -6,19 +6,25 @@ ghost use Prim.Native.Nat.{ℕ, _+_, _-_, _<_, _≤_};
 ghost use lib.ListN.{length, getD, drop};
 ghost use Rattle.lists.specs.Listed.{listed};
 ghost use Rattle.lists.specs.Put.{put};
-ghost use Rattle.ksets.specs.Sets.{sets, setAt, rankOf, full, run, nextOf};
+ghost use Rattle.ksets.specs.Sets.{maxNodes, sets, setAt, rankOf, full, run, nextOf};
 ghost use Rattle.ksets.specs.Workers.{nextAt, Writes};
 ghost use Rattle.ksets.specs.Workers.{Shared, Ranks, Raised, Steps};
 
+// The most nodes that sets are taken of.
+pub const MAX_NODES: usize = 24;
+
+// The entries of a row of Pascal's triangle, from 0 to the most nodes.
+const ENTRIES: usize = MAX_NODES + 1;
+
 // Pascal's row below `row`.
-fn next_row(row: [usize; 25]) -> [usize; 25]
+fn next_row(row: [usize; ENTRIES]) -> [usize; ENTRIES]
     requires { ⌜ ((k : ℕ) → getD row k 0 ≤ 4194304) ⌝ }
-    ensures { λ r. ⌜ r ≡ listed 25 (nextAt row) ⌝ }
+    ensures { λ r. ⌜ r ≡ listed (maxNodes + 1) (nextAt row) ⌝ }
 {
     let mut next = row;
     next[0] = 1;
     let mut k = 1;
-    while k < 25 {
+    while k < ENTRIES {
         next[k] = row[k] + row[k - 1];
         k += 1;
     }
@@ -26,12 +32,12 @@ fn next_row(row: [usize; 25]) -> [usize; 25]
 }
 
 // Pascal's row n, from the row above it.
-fn row_of(n: usize) -> [usize; 25]
-    requires { ⌜ n ≤ 24 ⌝ }
-    ensures { λ r. ⌜ r ≡ listed 25 (sets n) ⌝ }
+fn row_of(n: usize) -> [usize; ENTRIES]
+    requires { ⌜ n ≤ maxNodes ⌝ }
+    ensures { λ r. ⌜ r ≡ listed (maxNodes + 1) (sets n) ⌝ }
 {
     if n == 0 {
-        let mut first: [usize; 25] = [0; 25];
+        let mut first: [usize; ENTRIES] = [0; ENTRIES];
         first[0] = 1;
         return first;
     }
@@ -41,10 +47,10 @@ fn row_of(n: usize) -> [usize; 25]
 
 // The number of sets of k of n nodes.
 pub fn count(n: usize, k: usize) -> usize
-    requires { ⌜ n ≤ 24 ⌝ }
+    requires { ⌜ n ≤ maxNodes ⌝ }
     ensures { λ r. ⌜ r ≡ sets n k ⌝ }
 {
-    if 24 < k {
+    if MAX_NODES < k {
         return 0;
     }
     let row = row_of(n);
@@ -81,7 +87,7 @@ fn write_set(set: &mut [u8], at: usize, b: usize, n: usize, k: usize, pos: usize
 
 // Writes the set at a position.
 pub fn unrank(set: &mut [u8], n: usize, pos: usize)
-    requires { ⌜ (n ≤ 24) × (pos < sets n (length (now set))) ⌝ }
+    requires { ⌜ (n ≤ maxNodes) × (pos < sets n (length (now set))) ⌝ }
     ensures { λ _. ⌜ now (set .exit) ≡ setAt 0 n (length (now (set .entry))) pos ⌝ }
 {
     let k = set.len();
@@ -110,7 +116,7 @@ fn rank_from(set: &[u8], at: usize, b: usize, n: usize, k: usize, total: usize) 
 
 // The position of a set.
 pub fn rank(set: &[u8], n: usize) -> usize
-    requires { ⌜ n ≤ 24 ⌝ }
+    requires { ⌜ n ≤ maxNodes ⌝ }
     ensures { λ r. ⌜ r ≡ rankOf 0 n (now (set .entry)) ⌝ }
 {
     let k = set.len();

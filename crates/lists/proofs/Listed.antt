@@ -1,5 +1,5 @@
--- The laws of `listed`: its length, its entries, equality entry by entry, a list in two parts, its front, and what holds
--- of all entries.
+-- The laws of `listed`: its length, its entries, equality entry by entry, a list in two parts, its front, and what
+-- holds of all entries.
 use mathlib.Core.Path.{_≡_, refl, sym, ap, ap₂, _∙_}
 use mathlib.Core.List.{List, [], _∷_, _++_}
 use Prim.Native.Nat.{ℕ, zero, suc, _+_, _≤_, _<_, suc-le-suc}

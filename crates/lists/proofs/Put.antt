@@ -5,7 +5,7 @@ use Prim.Native.Nat.{ℕ, _+_, _≤_, _<_}
 use native.Mathlib.Nat.{add-zero, zero-add}
 use native.Mathlib.Numerals.{add-one}
 use native.Mathlib.Omega.{arith}
-use lib.ListN.{length, getD, set, take, drop, length-append, length-drop, take-append-drop}
+use lib.ListN.{length, getD, set, take, drop, length-append, length-take, length-drop, take-append-drop}
 use lib.Seq.{set-split, take-at, take-suc, drop-at, drop-drop, drop-length, length-take-le}
 use Rattle.lists.specs.Put.{put, Wrote}
 
@@ -84,3 +84,7 @@ unfolding put
 wrote-front {d} {e} {u} {n} w =
     let size : n ≡ length u = omega (arith, w .ends) in
     (size, ap (take n) (w .holds) ∙ take-at u (drop (0 + length u) d) n (sym size))
+
+pub wrote-fits : {d e u : List ℕ} {n : ℕ} → Wrote d 0 u n e → n ≤ length e
+wrote-fits {e = e} {n = n} w =
+    omega (arith, wrote-front w .0, ap length (wrote-front w .1), length-take n e)

@@ -4,12 +4,13 @@ use mathlib.Core.Bool.{Bool, true, false, _&&_, not, cond}
 use mathlib.Core.List.{List, [], _∷_, _++_}
 use Prim.Native.Nat.{ℕ, zero, suc, _+_, _-_, _*_, _/_, _%_, _≤_, _<_}
 use native.Mathlib.Nat.{add-zero, add-suc, zero-mul, suc-mul, add-mul, one-mul, not-suc-le-zero}
-use native.Mathlib.Decide.{ℕ-discrete}
+use native.Mathlib.Decide.{decLt, ℕ-discrete}
 use native.Mathlib.Numerals.{add-one}
 use native.Mathlib.Omega.{arith}
 use lib.Arith.{digits-div, digits-mod}
 use lib.Dec.{eqb}
-use lib.ListN.{length, length-append}
+use lib.ListN.{length, take, length-append, length-take}
+use lib.Seq.{take-all, take-append-le}
 use borrow.Author.Tests.{eq-eqb, ne-eqb}
 use Rattle.lists.specs.Listed.{rising}
 
@@ -23,6 +24,27 @@ rising-ext zero P Q h = refl
 rising-ext (suc n) P Q h =
     ap₂ (λ (l : List ℕ) (b : Bool). l ++ cond b (n ∷ []) []) (rising-ext n P Q (λ e l. h e (omega arith)))
     (h n (omega arith))
+
+-- the numbers below j that pass come first among those below n
+front-all : (j n : ℕ) (P : ℕ → Bool) → n ≡ j → take (length (rising j P)) (rising n P) ≡ rising j P
+front-all j n P e =
+    ap (λ (m : ℕ). take (length (rising j P)) (rising m P)) e
+    ∙ take-all (length (rising j P)) (rising j P) (omega arith)
+
+front-next : (j n : ℕ) (P : ℕ → Bool) → j ≤ suc n
+    → (j ≤ n → take (length (rising j P)) (rising n P) ≡ rising j P) → Dec (j < suc n)
+    → take (length (rising j P)) (rising (suc n) P) ≡ rising j P
+unfolding rising
+front-next j n P h earlier (yes l) =
+    let e : take (length (rising j P)) (rising n P) ≡ rising j P = earlier (omega arith) in
+    take-append-le (length (rising j P)) (rising n P) _
+    (omega (arith, ap length e, length-take (length (rising j P)) (rising n P)))
+    ∙ e
+front-next j n P h earlier (no l) = front-all j (suc n) P (omega arith)
+
+pub rising-front : (j n : ℕ) (P : ℕ → Bool) → j ≤ n → take (length (rising j P)) (rising n P) ≡ rising j P
+rising-front j zero P h = front-all j 0 P (omega arith)
+rising-front j (suc n) P h = front-next j n P h (rising-front j n P) (decLt j (suc n))
 
 -- how many numbers below n pass
 abbrev count : ℕ → (ℕ → Bool) → ℕ

@@ -1,4 +1,5 @@
--- The laws of `slice`: of two lists in a row, its length, its entries, and when it is listed by a function of the index.
+-- The laws of `slice`: of two lists in a row, its length, its entries, and when it is listed by a function of the
+-- index.
 use mathlib.Core.Path.{_≡_, sym, ap, _∙_}
 use mathlib.Core.List.{List, _++_}
 use Prim.Native.Nat.{ℕ, _+_, _≤_, _<_}

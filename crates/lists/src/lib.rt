@@ -1,9 +1,9 @@
-// Lists of bytes: written into a buffer, compared, searched. All else here is about lists alone: definitions in specs/,
-// their laws in proofs/.
+// Lists of bytes: written into a buffer, compared, searched; and the smaller of two numbers. All else here is about
+// lists alone: definitions in specs/, their laws in proofs/.
 ghost use mathlib.Core.Path.{_≡_};
 ghost use mathlib.Core.Bool.{cond};
 ghost use mathlib.Core.List.{[], _∷_};
-ghost use Prim.Native.Nat.{_+_, _≤_, _<_};
+ghost use Prim.Native.Nat.{_+_, _≤_, _<_, min};
 ghost use lib.ListN.{length};
 ghost use Rattle.lists.specs.Put.{slice, same, Wrote};
 ghost use Rattle.lists.specs.Positions.{positionIn};
@@ -60,4 +60,11 @@ pub fn position_of(list: &[u8], v: usize) -> usize
         q += 1;
     }
     q
+}
+
+// The smaller of two numbers.
+pub fn least(a: usize, b: usize) -> usize
+    ensures { λ r. ⌜ r ≡ min a b ⌝ }
+{
+    if a <= b { a } else { b }
 }

@@ -8,7 +8,7 @@ ghost use lib.ListN.{length};
 ghost use Rattle.lists.specs.Put.{Wrote};
 ghost use Rattle.lists.specs.Each.{Each};
 ghost use Rattle.fields.specs.Fields.{openingLength, fieldOf};
-ghost use Rattle.document.specs.Profile.{Accepted};
+ghost use Rattle.document.specs.Profile.{maxStrip, Accepted};
 ghost use Rattle.document.specs.Places.{Within, placeAt};
 ghost use Rattle.document.specs.Encoding.{stripOf};
 ghost use Rattle.document.specs.Message.{recordingBytes, recordingLength, profileContent, profileFieldLength};
@@ -122,7 +122,7 @@ fn put_head(out: &mut [u8], p: Profile, content: &[u8]) -> usize
 
 // Writes a field 03: a place, the recording and a strip.
 fn put_strip(out: &mut [u8], at: usize, r: Recording, q: Place, strip: &[u8]) -> usize
-    requires { ⌜ (q .node .0 < 256) × (q .row .0 < 256) × (length (now strip) ≤ 512)
+    requires { ⌜ (q .node .0 < 256) × (q .row .0 < 256) × (length (now strip) ≤ maxStrip)
         × (at + stripFieldLength (length (now strip)) ≤ length (now out)) ⌝ }
     ensures { λ next. ⌜ Wrote (now (out .entry)) at
         (fieldOf 3 (stripContent q r (now (strip .entry)))) next (now (out .exit)) ⌝ }

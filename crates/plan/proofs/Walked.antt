@@ -1,16 +1,17 @@
 -- The nodes that the three steps list are those of the plan.
 use mathlib.Core.Path.{_≡_, refl, sym, ap, ap₂, _∙_}
-use mathlib.Core.Bool.{Bool, true, false, _&&_, not, false≢true}
+use mathlib.Core.Bool.{Bool, true, false, _&&_, not, cond, false≢true}
 use mathlib.Core.List.{List, [], _∷_, _++_, map, append-assoc}
 use Prim.Native.Nat.{ℕ, zero, suc, _+_, _-_, _/_, _%_, _≤_, _<_, zero-le}
-use native.Mathlib.Nat.{zero-add, sub-zero, mul-sub}
+use native.Mathlib.Nat.{sub-zero, mul-sub}
 use native.Mathlib.Omega.{arith}
 use lib.Dec.{eqb}
-use lib.ListN.{length, take, length-append}
-use lib.Seq.{length-take-le, take-append-le, take-append-add}
+use lib.ListN.{length, take, length-append, length-take}
+use lib.Seq.{length-take-le, take-all}
 use Rattle.lists.specs.Listed.{rising}
-use Rattle.lists.specs.Put.{put, Wrote}
-use Rattle.lists.proofs.Put.{wrote-then}
+use Rattle.lists.proofs.Rising.{rising-front}
+use Rattle.lists.specs.Put.{Wrote}
+use Rattle.lists.proofs.Put.{wrote-then, wrote-same}
 use Rattle.lists.specs.Each.{Each}
 use Rattle.lists.proofs.Each.{each-append, each-take, each-map}
 use Rattle.document.specs.declared.Profile.{Profile}
@@ -29,7 +30,7 @@ use Rattle.document.specs.Plan.{
   planOver,
   planned,
 }
-use Rattle.document.proofs.Walks.{Sound, walk-sound, nodes-enough}
+use Rattle.document.proofs.Walks.{Sound, walk-sound, planned-over, nodes-enough}
 use Rattle.plan.specs.Steps.{placesOf}
 use Rattle.plan.proofs.Places.{places-append, singles, pairs}
 
@@ -51,6 +52,26 @@ diagonal-single : (group column : Bool) → not group && column ≡ true → not
 diagonal-single true column e = refl
 diagonal-single false true e = refl
 diagonal-single false false e = absurd (false≢true e)
+
+-- ---- a step, from `at` until the list ends at `end` or the nodes run out
+pub at-most-one : (j : ℕ) (b : Bool) → length (cond b (j ∷ []) []) ≤ 1
+at-most-one j true = omega arith
+at-most-one j false = omega arith
+
+module _ (n : ℕ) (P : ℕ → Bool) {d e : List ℕ} {j at next end : ℕ} where
+  pub nodes-run-out : j ≡ n → next ≤ end → Wrote d at (rising j P) next e → rising j P ≡ take (end - at) (rising n P)
+  nodes-run-out all fits w =
+      let some : length (rising j P) ≤ end - at = omega (arith, w .ends) in
+      sym (take-all (end - at) (rising j P) some) ∙ ap (λ (m : ℕ). take (end - at) (rising m P)) all
+
+  pub list-full : j ≤ n → next ≡ end → Wrote d at (rising j P) next e → rising j P ≡ take (end - at) (rising n P)
+  list-full h full w =
+      let size : length (rising j P) ≡ end - at = omega (arith, w .ends) in
+      sym (rising-front j n P h) ∙ ap (λ (m : ℕ). take m (rising n P)) size
+
+pub step-ends : {d e : List ℕ} {at r : ℕ} (end : ℕ) (xs : List ℕ) → at ≤ end → Wrote d at (take (end - at) xs) r e
+    → r ≤ end
+step-ends {at = at} end xs h w = omega (arith, w .ends, length-take (end - at) xs)
 
 module _ (p : Profile) (acc : Accepted p) (f : Node) (h : f .0 < p .n) where
   open Profile p using (n, k, a as A)
@@ -90,25 +111,18 @@ module _ (p : Profile) (acc : Accepted p) (f : Node) (h : f .0 < p .n) where
       ∙ ap₂ _+_ (sound .own-length)
       (sym (ap length (take-both k diagonal off)) ∙ length-take-le k (diagonal ++ off) enough)
 
-  front-nodes : (rest : List ℕ) → take (length own + k) (((own ++ diagonal) ++ off) ++ rest) ≡ planNodes
-  front-nodes rest =
-      ap (take (length own + k)) (simp append-assoc)
-      ∙ take-append-add own (diagonal ++ (off ++ rest)) k
-      ∙ ap (λ (l : List ℕ). own ++ l)
-      (ap (take k) (sym (append-assoc diagonal off rest)) ∙ take-append-le k (diagonal ++ off) rest enough
-      ∙ take-both k diagonal off)
-
-  -- where the three steps write their nodes one after the other
+  -- where the three steps write their nodes one after the other, steps 2 and 3 until there are k
   pub nodes-written : {d d₁ d₂ d₃ : List ℕ} {m₁ m₂ m₃ : ℕ}
-      → Wrote d 0 own m₁ d₁ → Wrote d₁ m₁ diagonal m₂ d₂ → Wrote d₂ m₂ off m₃ d₃
-      → (m₁ + k ≡ length planNodes) × (take (m₁ + k) d₃ ≡ planNodes)
-  unfolding put
-  nodes-written {m₁ = m₁} u v w =
-      let e : m₁ ≡ length own = u .ends ∙ zero-add (length own) in (
-        ap (λ (m : ℕ). m + k) (e ∙ sound .own-length) ∙ sym nodes-count,
-        ap₂ (λ (m : ℕ) (l : List ℕ). take (m + k) l) e (wrote-then zero-le (wrote-then zero-le u v) w .holds)
-            ∙ front-nodes _,
-      )
+      → Wrote d 0 (take (A - 1 - 0) own) m₁ d₁ → Wrote d₁ m₁ (take (m₁ + k - m₁) diagonal) m₂ d₂
+      → Wrote d₂ m₂ (take (m₁ + k - m₂) off) m₃ d₃ → Wrote d 0 planNodes m₃ d₃
+  nodes-written {d₁ = d₁} {d₂ = d₂} {m₁ = m₁} {m₂ = m₂} u v w =
+      let all : take (A - 1 - 0) own ≡ own = take-all (A - 1 - 0) own (omega (arith, sound .own-length)) in
+      let most : m₁ + k - m₁ ≡ k = omega arith in
+      let two : Wrote d₁ m₁ second m₂ d₂ = wrote-same (ap (λ (m : ℕ). take m diagonal) most) v in
+      let left : m₁ + k - m₂ ≡ k - length second = omega (arith, two .ends) in
+      wrote-same (append-assoc own second third)
+      (wrote-then zero-le (wrote-then zero-le (wrote-same all u) two)
+      (wrote-same (ap (λ (m : ℕ). take m off) left) w))
 
   pub nodes-below : Each (λ j. j < n) planNodes
   nodes-below =
@@ -136,7 +150,8 @@ module _ (p : Profile) (acc : Accepted p) (f : Node) (h : f .0 < p .n) where
   off-places = pairs A f (each-take (k - length second) (each-map (λ j r. r .0) (sound .off-diagonal)))
 
   pub plan-places : placesOf A f planNodes ≡ planned p f
-  unfolding planned planOver
+  unfolding planOver
   plan-places =
       places-append A f own (second ++ third)
       ∙ ap₂ _++_ own-places (places-append A f second third ∙ ap₂ _++_ diagonal-places off-places)
+      ∙ sym (planned-over p f)

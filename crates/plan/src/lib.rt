@@ -1,11 +1,11 @@
 // The plan: the places that are read to rebuild a lost node.
 ghost use mathlib.Core.Path.{_≡_};
 ghost use mathlib.Core.List.{_∷_, []};
-ghost use Prim.Native.Nat.{ℕ, _+_, _<_, _≤_};
+ghost use Prim.Native.Nat.{ℕ, _+_, _-_, _<_, _≤_};
 ghost use lib.ListN.{length, getD, take};
 ghost use Rattle.lists.specs.Listed.{rising};
 ghost use Rattle.lists.specs.Put.{Wrote};
-ghost use Rattle.document.specs.Profile.{Accepted};
+ghost use Rattle.document.specs.Profile.{Accepted, maxNodes};
 ghost use Rattle.document.specs.Plan.{walkOf, nodesOver, planned, priceOf, planBytes, planWith, planOf};
 ghost use Rattle.plan.specs.Steps.{inStep, placesAt, placesOf};
 use document::Answer;
@@ -28,9 +28,6 @@ pub enum Step {
 // No plan of an accepted profile has more places: (24,20,4) has as many.
 pub const MAX_PLACES: usize = 38;
 
-// Room for the nodes of three steps.
-pub const MAX_LISTED: usize = 3 * Profile::MAX_NODES;
-
 // Whether the step goes over node j.
 pub fn in_step(step: Step, p: Profile, f: Node, j: usize) -> bool
     requires { ⌜ Accepted p ⌝ }
@@ -45,15 +42,16 @@ pub fn in_step(step: Step, p: Profile, f: Node, j: usize) -> bool
     }
 }
 
-// Writes the numbers of the nodes that the step goes over.
-fn list_step(out: &mut [u8], at: usize, p: Profile, f: Node, step: Step) -> usize
-    requires { ⌜ Accepted p × (at + p .n ≤ length (now out)) ⌝ }
-    ensures { λ r. ⌜ Wrote (now (out .entry)) at (rising (p .n) (inStep step (p .a) f)) r (now (out .exit)) ⌝ }
+// Writes the numbers of the nodes that the step goes over, until the list ends at `end` or the nodes run out.
+fn list_step(out: &mut [u8], at: usize, end: usize, p: Profile, f: Node, step: Step) -> usize
+    requires { ⌜ Accepted p × (at ≤ end) × (end ≤ length (now out)) ⌝ }
+    ensures { λ r. ⌜ Wrote (now (out .entry)) at
+        (take (end - at) (rising (p .n) (inStep step (p .a) f))) r (now (out .exit)) ⌝ }
 {
     let n = p.n;
     let mut next = at;
     let mut j: usize = 0;
-    while j < n {
+    while j < n && next < end {
         let wanted = in_step(step, p, f, j);
         next = lists::put_if(out, next, j, wanted);
         j += 1;
@@ -103,17 +101,15 @@ fn put_nodes(out: &mut [u8], p: Profile, f: Node, nodes: &[u8]) -> usize
     at
 }
 
-// Writes the numbers of the nodes that the plan reads at, and returns how many there are. A step's nodes may be more
-// than the plan takes of them, so the buffer is longer than the list.
+// Writes the numbers of the nodes that the plan reads at, and returns how many there are.
 pub fn list_nodes(out: &mut [u8], p: Profile, f: Node) -> usize
-    requires { ⌜ Accepted p × (f .0 < p .n) × (72 ≤ length (now out)) ⌝ }
-    ensures { λ r. ⌜ (r ≡ length (nodesOver (p .k) (walkOf p f)))
-        × (take r (now (out .exit)) ≡ nodesOver (p .k) (walkOf p f)) ⌝ }
+    requires { ⌜ Accepted p × (f .0 < p .n) × (maxNodes ≤ length (now out)) ⌝ }
+    ensures { λ r. ⌜ Wrote (now (out .entry)) 0 (nodesOver (p .k) (walkOf p f)) r (now (out .exit)) ⌝ }
 {
-    let own = list_step(out, 0, p, f, Step::Own);
-    let diagonal = list_step(out, own, p, f, Step::Diagonal);
-    list_step(out, diagonal, p, f, Step::OffDiagonal);
-    own + p.k
+    let own = list_step(out, 0, p.a - 1, p, f, Step::Own);
+    let end = own + p.k;
+    let diagonal = list_step(out, own, end, p, f, Step::Diagonal);
+    list_step(out, diagonal, end, p, f, Step::OffDiagonal)
 }
 
 // Writes the planned places, two bytes each, and returns the number of bytes.
@@ -121,7 +117,7 @@ pub fn put_plan(out: &mut [u8], p: Profile, f: Node) -> usize
     requires { ⌜ Accepted p × (f .0 < p .n) × (length (planBytes (planned p f)) ≤ length (now out)) ⌝ }
     ensures { λ r. ⌜ Wrote (now (out .entry)) 0 (planBytes (planned p f)) r (now (out .exit)) ⌝ }
 {
-    let mut nodes = [0u8; MAX_LISTED];
+    let mut nodes = [0u8; Profile::MAX_NODES];
     let end = list_nodes(&mut nodes, p, f);
     put_nodes(out, p, f, &nodes[..end])
 }
@@ -132,11 +128,8 @@ pub fn price(p: Profile) -> usize
     ensures { λ r. ⌜ r ≡ priceOf (p .n) (p .k) (p .a) ⌝ }
 {
     let others = p.n / p.a - 1;
-    let singles = p.a - 1 + p.k;
-    if p.k <= others {
-        return singles;
-    }
-    singles + (p.k - others)
+    let singles = lists::least(p.k, others);
+    p.a - 1 + p.k + (p.k - singles)
 }
 
 // Plans with an accepted profile.

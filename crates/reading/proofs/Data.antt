@@ -1,5 +1,5 @@
--- The data that the steps of reading back come to are those of document 01: at each byte offset the strips hold first what
--- is known, then the base symbols of the named nodes, and the columns made of them the data symbols.
+-- The data that the steps of reading back come to are those of document 01: at each byte offset the strips hold first
+-- what is known, then the base symbols of the named nodes, and the columns made of them the data symbols.
 use mathlib.Core.Path.{_≡_, refl, sym, ap, ap₂, _∙_}
 use mathlib.Core.Bool.{Bool, true, false, cond}
 use mathlib.Core.List.{List}

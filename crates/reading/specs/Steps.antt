@@ -1,6 +1,6 @@
--- What the steps of reading back leave. Strips are those of the named nodes' columns joined in list order, z = qA + i for
--- row i of the q-th named node. x are the joined columns, y strips of the named nodes, r right-hand sides of the system of
--- the half pairs, a strip for each.
+-- What the steps of reading back leave. Strips are those of the named nodes' columns joined in list order, z = qA + i
+-- for row i of the q-th named node. x are the joined columns, y strips of the named nodes, r right-hand sides of the
+-- system of the half pairs, a strip for each.
 --
 -- knownStrip p nodes x z            : what x gives of the base symbols of strip z: all of them where its partner is named,
 --                                     otherwise the stored ones

@@ -1,5 +1,6 @@
-// Reading back by pairs. Where both strips of a pair are read they give both base strips; the partners of the half pairs
-// solve a small system. From the base strips of the named nodes follow those of the data nodes, which are the data.
+// Reading back by pairs. Where both strips of a pair are read they give both base strips; the partners of the half
+// pairs solve a small system. From the base strips of the named nodes follow those of the data nodes, which are the
+// data.
 ghost use mathlib.Core.Path.{_≡_};
 ghost use Prim.Native.Nat.{_*_, _<_};
 ghost use lib.ListN.{length};
@@ -16,6 +17,7 @@ use document::Numbers;
 use document::Profile;
 use document::Refusal;
 use square::Line;
+use square::SIDE;
 use square::Verdict;
 
 // Whether the list is k strictly rising numbers below n.
@@ -90,8 +92,8 @@ fn known_strips(out: &mut [u8], p: Profile, nodes: &[u8], positions: &[u8], colu
     }
 }
 
-// What the known strips y give of the base strip at the partner of the half pair z: the sum of the strips of its row, with
-// the weights at its node.
+// What the known strips y give of the base strip at the partner of the half pair z: the sum of the strips of its row,
+// with the weights at its node.
 fn known_partner(out: &mut [u8], p: Profile, nodes: &[u8], table: &[u8], y: &[u8], z: usize)
     requires { ⌜ Accepted p × Rising (p .n) (p .k) (now nodes) × (z < p .k * p .a) ⌝ }
     requires { ⌜ (now table ≡ weightTable p (now nodes)) × (length (now out) ≡ p .s)
@@ -123,8 +125,8 @@ fn known_partners(out: &mut [u8], p: Profile, nodes: &[u8], table: &[u8], halves
     }
 }
 
-// Completes the e-th half pair: its partner is the sum of the right-hand sides r with line e of the inverse, and is added
-// times its factor.
+// Completes the e-th half pair: its partner is the sum of the right-hand sides r with line e of the inverse, and is
+// added times its factor.
 fn complete_strip(
     y: &mut [u8],
     p: Profile,
@@ -153,7 +155,7 @@ fn complete_strip(
 }
 
 // Completes all of them.
-fn complete(y: &mut [u8], p: Profile, nodes: &[u8], halves: &[u8], r: &[u8], lines: [Line; 80])
+fn complete(y: &mut [u8], p: Profile, nodes: &[u8], halves: &[u8], r: &[u8], lines: [Line; SIDE])
     requires { ⌜ Accepted p × Rising (p .n) (p .k) (now nodes) × (now halves ≡ halfPairs p (now nodes)) ⌝ }
     requires { ⌜ (length (now y) ≡ p .k * p .a * p .s) × (length (now r) ≡ length (now halves) * p .s) ⌝ }
     ensures { λ _. ⌜ now (y .exit)
@@ -167,8 +169,8 @@ fn complete(y: &mut [u8], p: Profile, nodes: &[u8], halves: &[u8], r: &[u8], lin
     }
 }
 
-// The base strips of node j from those of the named nodes, y: its own where it is one of them, otherwise their sum with the
-// weights at it. Every row has the same weights, so a whole column is one strip to the row code.
+// The base strips of node j from those of the named nodes, y: its own where it is one of them, otherwise their sum with
+// the weights at it. Every row has the same weights, so a whole column is one strip to the row code.
 fn put_column(
     out: &mut [u8],
     p: Profile,
@@ -213,8 +215,8 @@ fn put_columns(out: &mut [u8], p: Profile, nodes: &[u8], positions: &[u8], table
     }
 }
 
-// The data, by the lines of the inverse of the system. The strips of the named nodes stand in y; the right-hand sides stand
-// in the output until the data are written over them.
+// The data, by the lines of the inverse of the system. The strips of the named nodes stand in y; the right-hand sides
+// stand in the output until the data are written over them.
 fn put_data_in(
     out: &mut [u8],
     y: &mut [u8],
@@ -224,7 +226,7 @@ fn put_data_in(
     table: &[u8],
     halves: &[u8],
     columns: &[u8],
-    lines: [Line; 80],
+    lines: [Line; SIDE],
 )
     requires { ⌜ Accepted p × Rising (p .n) (p .k) (now nodes) × (now positions ≡ positionTable (now nodes)) ⌝ }
     requires { ⌜ (now table ≡ weightTable p (now nodes)) × (now halves ≡ halfPairs p (now nodes)) ⌝ }
@@ -248,7 +250,7 @@ fn put_data(
     table: &[u8],
     halves: &[u8],
     columns: &[u8],
-    lines: [Line; 80],
+    lines: [Line; SIDE],
 )
     requires { ⌜ Accepted p × Rising (p .n) (p .k) (now nodes) × (now positions ≡ positionTable (now nodes)) ⌝ }
     requires { ⌜ (now table ≡ weightTable p (now nodes)) × (now halves ≡ halfPairs p (now nodes)) ⌝ }
@@ -256,7 +258,7 @@ fn put_data(
     ensures { λ _. ⌜ now (out .exit) ≡ dataBy p (now (nodes .entry)) lines (now (columns .entry)) ⌝ }
 {
     let size = out.len();
-    let mut y = [0u8; 80 * Profile::MAX_STRIP];
+    let mut y = [0u8; SIDE * Profile::MAX_STRIP];
     put_data_in(
         out,
         &mut y[..size],

@@ -22,7 +22,7 @@ use Rattle.document.specs.Plan.{isOffDiagonal, rowAt, walkOf, nodesOver, planne
 use Rattle.document.specs.Rebuild.{positionOf, givenAt}
 use Rattle.document.proofs.ByteField.{number-byte, number-add, number-mul}
 use Rattle.document.proofs.Bounds.{A>0}
-use Rattle.document.proofs.Walks.{walk-sound}
+use Rattle.document.proofs.Walks.{walk-sound, planned-over}
 use Rattle.document.proofs.Planned.{over-distinct}
 use Rattle.document.proofs.Chosen.{position-at}
 use Rattle.plan.specs.Steps.{placesAt, placesOf}
@@ -72,8 +72,7 @@ module _ (p : Profile) (acc : Accepted p) (f : Node) where
 
   -- ---- what is given there
   plan-distinct : f .0 < n → Distinct (planned p f)
-  unfolding planned
-  plan-distinct h = over-distinct A (A>0 p acc) k f (walkOf p f) (walk-sound p acc f h)
+  plan-distinct h = rw planned-over (over-distinct A (A>0 p acc) k f (walkOf p f) (walk-sound p acc f h))
 
   module _ (below : f .0 < n) (src : List ℕ) (small : (e : ℕ) → getD src e 0 < 256) (first stride : ℕ) where
     abbrev x : ℕ → Place → Byte

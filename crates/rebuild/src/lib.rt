@@ -276,7 +276,7 @@ pub fn rebuild_column(
     requires { ⌜ StripsFit p f (now src) first stride ⌝ }
     ensures { λ _. ⌜ now (column .exit) ≡ rebuiltOf p f (now (src .entry)) first stride ⌝ }
 {
-    let mut nodes = [0u8; plan::MAX_LISTED];
+    let mut nodes = [0u8; Profile::MAX_NODES];
     let count = plan::list_nodes(&mut nodes, p, f);
     let size = count * p.s;
     let mut folded = [0u8; Profile::MAX_NODES * Profile::MAX_STRIP];

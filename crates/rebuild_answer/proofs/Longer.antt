@@ -33,7 +33,7 @@ use Rattle.document.specs.Program.{
 use Rattle.document.proofs.Accepts.{on-accepted-same}
 use Rattle.document.proofs.Bundle.{lost-length, bundle-bound}
 use Rattle.document.proofs.Program.{told, output-is}
-use Rattle.rebuild_answer.specs.Room.{longestInput}
+use Rattle.rebuild_answer.specs.Room.{longestInput, LongerInput}
 
 -- a bundle longer than any that is wanted is refused at the latest for its length
 not-formed : (p : Profile) → Accepted p → (f : Node) → f .0 < p .n → (r : Recording) (b : List ℕ)
@@ -96,11 +96,14 @@ module _ (m : ℕ) (long : longestInput < m) (input : List ℕ) (h : m ≤ lengt
   unfolding wantedRecording
   recording-same = simp (read 7 (lit< tt), read 8 (lit< tt), read 9 (lit< tt), read 10 (lit< tt))
 
-  pub longer-input : programOf input ≡ programOf (take m input)
+  prefix-same : programOf input ≡ programOf (take m input)
   unfolding programOf
-  longer-input =
+  prefix-same =
       rw (numbers-same, lost-same, recording-same)
       (too-long (wantedNumbers input) (wantedNode input) (wantedRecording input) (drop programHead input)
       (drop programHead (take m input)) (replicate (wantedNumbers input .a * wantedNumbers input .s) 0)
       (rw length-drop (omega arith))
       (rw (length-drop programHead (take m input), length-take-le m input h) (omega arith)))
+
+pub longer-input : LongerInput
+longer-input = prefix-same

@@ -3,13 +3,12 @@ use mathlib.Core.Path.{_≡_, ap, _∙_}
 use mathlib.Core.Bool.{Bool, true, false, cond}
 use mathlib.Core.List.{List, [], _∷_, _++_, append-assoc}
 use Prim.Native.Nat.{ℕ, _+_, _/_, _%_, _≤_, _<_, zero-le}
-use native.Mathlib.Nat.{add-assoc, zero-add}
+use native.Mathlib.Nat.{add-assoc}
 use native.Mathlib.Omega.{arith}
 use lib.Dec.{ltb}
-use lib.ListN.{length, set, take, drop, length-append, length-set}
-use lib.Seq.{take-append-seam}
+use lib.ListN.{length, set, length-append, length-set}
 use borrow.Author.Tests.{lt-ltb, le-ltb}
-use Rattle.lists.specs.Put.{put, Wrote}
+use Rattle.lists.specs.Put.{Wrote}
 use Rattle.lists.proofs.Put.{wrote-one, wrote-then, wrote-same}
 use Rattle.document.specs.declared.Refusal.{Refusal}
 use Rattle.document.specs.Refusals.{numberOf, indexOf}
@@ -62,20 +61,3 @@ line-written {number = number} {index = index} r u v w ne ie =
     ∙ rw (ne, ie) (ap (λ (l : List ℕ). refusedText ++ (decimal (numberOf r) ++ l))
     (append-assoc atText (decimal (indexOf r)) (0x0A ∷ []))))
     (wrote-then zero-le (wrote-then zero-le u v) w)
-
--- a line written at the start: so many bytes, and no others
-pub line-taken : {d e : List ℕ} {n : ℕ} (r : Refusal) → Wrote d 0 (refusalLine r) n e → take n e ≡ refusalLine r
-unfolding put
-line-taken {d} r w =
-    rw (w .holds, w .ends, zero-add) (take-append-seam (refusalLine r) (drop (length (refusalLine r)) d))
-
-pub line-length : (r : Refusal) → length (refusalLine r) ≤ 17
-unfolding refusalLine
-line-length r =
-    omega (
-      arith,
-      length-append (decimal (numberOf r)) (atText ++ (decimal (indexOf r) ++ (0x0A ∷ []))),
-      length-append (decimal (indexOf r)) (0x0A ∷ []),
-      decimal-length (numberOf r),
-      decimal-length (indexOf r),
-    )

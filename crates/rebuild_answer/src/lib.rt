@@ -1,15 +1,15 @@
 // The small program of document 01 as a function: from the bytes of standard input to those of standard output.
 ghost use mathlib.Core.Path.{_≡_};
 ghost use mathlib.Core.List.{_++_};
-ghost use Prim.Native.Nat.{_+_, _<_, _≤_, min};
-ghost use lib.ListN.{length, drop};
+ghost use Prim.Native.Nat.{_+_, _*_, _<_, _≤_};
+ghost use lib.ListN.{length, drop, replicate};
 ghost use Rattle.lists.specs.Put.{Wrote};
 ghost use Rattle.document.specs.Refusals.{indexOf};
+ghost use Rattle.document.specs.Profile.{maxRows, maxStrip};
 ghost use Rattle.document.specs.Rebuild.{rebuildOf};
 ghost use Rattle.document.specs.Program.{byteIn, programHead, wantedNumbers, wantedNode, wantedRecording};
-ghost use Rattle.document.specs.Program.{decimal, refusalLine};
+ghost use Rattle.document.specs.Program.{decimal, refusalLine, programOf};
 ghost use Rattle.rebuild_answer.specs.Room.{longestInput};
-ghost use Rattle.rebuild_answer.specs.Answered.{Answered};
 use document::Answer;
 use document::Numbers;
 use document::Profile;
@@ -20,7 +20,7 @@ use document::Refusal;
 const WANTED: usize = 11;
 
 // As much of the input as is needed: one byte more than the head and the longest bundle. A longer input answers as its
-// first ROOM bytes do: `longer-input` of proofs/Longer.antt.
+// first ROOM bytes do: LongerInput of specs/Room.antt.
 pub const ROOM: usize = WANTED + bundle::LONGEST + 1;
 
 // The longest column.
@@ -28,7 +28,7 @@ pub const COLUMN: usize = Profile::MAX_ROWS * Profile::MAX_STRIP;
 
 // A buffer for the input.
 pub fn input_buffer() -> [u8; ROOM]
-    ensures { λ r. ⌜ longestInput + 1 ≡ length r ⌝ }
+    ensures { λ r. ⌜ r ≡ replicate (longestInput + 1) 0 ⌝ }
 {
     [0; ROOM]
 }
@@ -75,16 +75,6 @@ fn recording(input: &[u8]) -> Recording
     }
 }
 
-// The smaller of two numbers.
-fn least(a: usize, b: usize) -> usize
-    ensures { λ r. ⌜ r ≡ min a b ⌝ }
-{
-    if a < b {
-        return a;
-    }
-    b
-}
-
 // Writes a number in decimal digits.
 fn put_decimal(out: &mut [u8], at: usize, v: usize) -> usize
     requires { ⌜ (at + 2 ≤ length (now out)) × (v < 100) ⌝ }
@@ -125,17 +115,17 @@ fn rebuild_input(input: &[u8], p: Numbers, column: &mut [u8]) -> Answer
 {
     let lost = byte_in(input, 6) as usize;
     let r = recording(input);
-    let head = least(input.len(), WANTED);
+    let head = lists::least(input.len(), WANTED);
     rebuild::rebuild(p, lost, r, &input[head..], column)
 }
 
 // Writes what the program answers to this input, and returns the number of its bytes.
 fn put_answer(out: &mut [u8], input: &[u8]) -> usize
-    requires { ⌜ 2048 ≤ length (now out) ⌝ }
-    ensures { λ r. ⌜ Answered (now (input .entry)) r (now (out .exit)) ⌝ }
+    requires { ⌜ maxRows * maxStrip ≤ length (now out) ⌝ }
+    ensures { λ r. ⌜ Wrote (now (out .entry)) 0 (programOf (now (input .entry))) r (now (out .exit)) ⌝ }
 {
     let p = numbers(input);
-    let room = least(p.a * p.s, COLUMN);
+    let room = lists::least(p.a * p.s, COLUMN);
     let outcome = rebuild_input(input, p, &mut out[..room]);
     match outcome {
         Answer::Done(_) => room,
@@ -143,9 +133,10 @@ fn put_answer(out: &mut [u8], input: &[u8]) -> usize
     }
 }
 
-// What the program writes to standard output for this standard input: so many bytes at the start of `output`.
+// What the program writes to standard output for this standard input: so many bytes at the start of `output`. The bytes
+// past them stay.
 pub fn answer(input: &[u8], output: &mut [u8; COLUMN]) -> usize
-    ensures { λ r. ⌜ Answered (now (input .entry)) r (now (output .exit)) ⌝ }
+    ensures { λ r. ⌜ Wrote (now (output .entry)) 0 (programOf (now (input .entry))) r (now (output .exit)) ⌝ }
 {
     put_answer(output, input)
 }

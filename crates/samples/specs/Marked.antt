@@ -69,7 +69,6 @@ use Rattle.document.specs.Plan.{
   isDiagonal,
   isOffDiagonal,
   pairsAt,
-  planOver,
   planned,
   plannedAt,
   planBytes,
@@ -191,7 +190,7 @@ marked =
 pub shown : map (λ c. c .gives) marked ≡ map (λ c. c .says) marked
 unfolding marked lent encodeOf encodeWith encodeTests onAccepted profileTests shapeAccepted constantAccepted stripAccepted tried
     answerNumber answerValue encoded laidOut coupledAt constantOf baseAt byteAt start listed sum weight byte
-    number bytes _⊕_ _⊗_ double bitProduct squares inverse ℕ-discrete decLt planOf planWith planTests planned planOver
+    number bytes _⊕_ _⊗_ double bitProduct squares inverse ℕ-discrete decLt planOf planWith planTests planned
     pairsAt planBytes isOwn isDiagonal isOffDiagonal rising rebuildOf rebuildWith rebuildTests bundleTests messageTests opened formed headed
     placed fresh placeIn recordingIn stripFieldStart plannedAt slice same all opening twoBytes fourBytes
     profileContent lostContent recordingBytes rebuiltOf rebuiltOver givenAt positionOf samePlace columnOf

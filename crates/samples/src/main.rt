@@ -204,7 +204,7 @@ fn print_bundle() {
 // The number of places of a plan.
 fn print_price(name: &[u8], n: usize, k: usize, a: usize) {
     let p = numbers(n, k, a, 2, 1);
-    let mut places = [0u8; 76];
+    let mut places = [0u8; 2 * plan::MAX_PLACES];
     print(name);
     let answer = plan::plan(p, 0, &mut places);
     match answer {

@@ -7,7 +7,7 @@
 -- Multipliers e r v c   : c i is what line i is given of line r, so that the column with the entries e has 1 in line r,
 --                         where the pivot is v, and 0 elsewhere
 -- Cleared c r rows b z  : z is b after the step that adds c i times line r to each line i below rows, with the entries
---                         of the column after r; of column 0 past the last of 80
+--                         of the column after r; of column 0 past the last that there is room for
 use mathlib.Core.Path.{_≡_}
 use mathlib.Core.Bool.{cond}
 use mathlib.Core.List.{List}
@@ -17,7 +17,7 @@ use lib.ListN.{length, getD}
 use Rattle.gf256.specs.Field.{_⊕_, _⊗_, inverse}
 use Rattle.square.specs.declared.Line.{Line}
 use Rattle.square.specs.declared.Left.{Left}
-use Rattle.square.specs.Steps.{lineAt, stepped}
+use Rattle.square.specs.Steps.{side, lineAt, stepped}
 
 pub record Holds (x : List ℕ) (j v : ℕ) : Type 0 where
   pub value : v ≡ getD x j 0
@@ -32,8 +32,8 @@ abbrev pub EntriesOf : List Line → ℕ → ℕ → List ℕ → Type 0
 EntriesOf s j rows e = Gathered (lineAt s) j rows rows e
 
 pub record Multipliers (e : List ℕ) (r v : ℕ) (c : List ℕ) : Type 0 where
-  pub at : (i : ℕ) → i < 80 → getD c i 0 ≡ cond (eqb i r) (1 ⊕ inverse v) (inverse v ⊗ getD e i 0)
+  pub at : (i : ℕ) → i < side → getD c i 0 ≡ cond (eqb i r) (1 ⊕ inverse v) (inverse v ⊗ getD e i 0)
 
 pub record Cleared (c : ℕ → ℕ) (r rows : ℕ) (b : List Line) (z : Left) : Type 0 where
   pub lines : z .lines ≡ stepped c r b rows
-  pub entries : EntriesOf (z .lines) ((r + 1) % 80) rows (z .entries)
+  pub entries : EntriesOf (z .lines) ((r + 1) % side) rows (z .entries)

@@ -1,6 +1,7 @@
 -- A square as a list of lines, and the steps of its elimination. A column here is that of a matrix, not a node's. The
 -- lists may have any lengths; an entry that is missing counts as 0.
 --
+-- side                 : the lines, and the columns, that the functions have room for
 -- noLine               : the line that stands past the end
 -- lineAt s i           : the entries of line i of s
 -- entry s i j          : the entry of line i in column j
@@ -23,6 +24,10 @@ use Rattle.strips.specs.Strips.{addedScaled}
 use Rattle.square.specs.declared.Line.{Line}
 use Rattle.square.specs.declared.Pivot.{Pivot}
 use Rattle.square.specs.declared.Pivot.the-variants.{At, Missing}
+
+-- 'The coefficient square of one reading, at most 80 by 80 field elements'
+abbrev pub side : ℕ
+side = 80
 
 abbrev pub noLine : Line
 noLine = record { c = [] }

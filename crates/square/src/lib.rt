@@ -1,6 +1,6 @@
 // A square of coefficients as an array of lines, passed by value through the steps of its elimination. A row of it is
 // called a line, since `Row` is the number of a strip's row. `rows` and `columns` say how many lines and columns count;
-// they may differ. 80 is the largest kA of an accepted profile.
+// they may differ.
 ghost use mathlib.Core.Path.{_≡_};
 ghost use mathlib.Core.Bool.{cond};
 ghost use mathlib.Core.List.{List};
@@ -8,13 +8,16 @@ ghost use Prim.Native.Nat.{ℕ, _+_, _%_, _≤_, _<_};
 ghost use lib.ListN.{length, getD};
 ghost use lib.Dec.{eqb};
 ghost use Rattle.strips.specs.Strips.{addedScaled};
-ghost use Rattle.square.specs.Steps.{stepped, lifted, pivotFrom, unitSquare};
+ghost use Rattle.square.specs.Steps.{side, stepped, lifted, pivotFrom, unitSquare};
 ghost use Rattle.square.specs.Elimination.{eliminated};
 ghost use Rattle.square.specs.Columns.{Holds, EntriesOf, Multipliers, Cleared};
 
+// The lines of a square, and its columns: the largest kA of an accepted profile.
+pub const SIDE: usize = 80;
+
 // One line: the coefficients of one equation.
 pub struct Line {
-    pub c: [u8; 80],
+    pub c: [u8; SIDE],
 }
 
 // The line whose entry in a column serves to clear it.
@@ -32,8 +35,8 @@ pub enum Verdict {
 // The square as far as it is reduced, with the entries of the column that is next. Each function that takes the square
 // by value copies it, so the pivot is looked for and the multipliers are computed in the entries alone.
 struct Left {
-    lines: [Line; 80],
-    entries: [u8; 80],
+    lines: [Line; SIDE],
+    entries: [u8; SIDE],
 }
 
 // What an elimination comes to: with `Regular` the first lines are those of the inverse, if rows and columns are
@@ -41,12 +44,12 @@ struct Left {
 // square takes to zero.
 pub struct Eliminated {
     pub verdict: Verdict,
-    pub lines: [Line; 80],
+    pub lines: [Line; SIDE],
 }
 
 // The entry in column j.
 fn entry_at(x: Line, j: usize) -> u8
-    requires { ⌜ j < 80 ⌝ }
+    requires { ⌜ j < side ⌝ }
     ensures { λ v. ⌜ Holds (x .c) j v ⌝ }
 {
     x.c[j]
@@ -73,8 +76,8 @@ fn lifted_line(x: Line, y: Line, r: usize, p: usize) -> Line
 }
 
 // The first line from `from` on, below `rows`, whose entry in the column is not 0.
-fn find_pivot(entries: [u8; 80], from: usize, rows: usize) -> Pivot
-    requires { ⌜ rows ≤ 80 ⌝ }
+fn find_pivot(entries: [u8; SIDE], from: usize, rows: usize) -> Pivot
+    requires { ⌜ rows ≤ side ⌝ }
     ensures { λ r. ⌜ ((s : List Line) (j : ℕ) → EntriesOf s j rows entries → r ≡ pivotFrom s j from rows) ⌝ }
 {
     let mut i = from;
@@ -89,23 +92,23 @@ fn find_pivot(entries: [u8; 80], from: usize, rows: usize) -> Pivot
 
 // What each line is given of line r, so that the column has 1 there and 0 elsewhere: the entry times the inverse of the
 // pivot, and in line r itself what makes the pivot 1.
-fn multipliers(entries: [u8; 80], r: usize, pivot: u8) -> [u8; 80]
-    requires { ⌜ r < 80 ⌝ }
+fn multipliers(entries: [u8; SIDE], r: usize, pivot: u8) -> [u8; SIDE]
+    requires { ⌜ r < side ⌝ }
     ensures { λ z. ⌜ Multipliers entries r pivot z ⌝ }
 {
     let v = gf256::inverse(pivot);
-    let mut z = [0u8; 80];
+    let mut z = [0u8; SIDE];
     strips::add_scaled(&mut z, 0, &entries, v);
     z[r] = 1 ^ v;
     z
 }
 
-// The column after r; column 0 past the last of 80.
+// The column after r; column 0 past the last that there is room for.
 fn after(r: usize) -> usize
-    requires { ⌜ r < 80 ⌝ }
-    ensures { λ j. ⌜ j ≡ (r + 1) % 80 ⌝ }
+    requires { ⌜ r < side ⌝ }
+    ensures { λ j. ⌜ j ≡ (r + 1) % side ⌝ }
 {
-    if r == 79 {
+    if r + 1 == SIDE {
         return 0;
     }
     r + 1
@@ -114,8 +117,8 @@ fn after(r: usize) -> usize
 // Line r is lifted by line p, and to each line i below `rows` is added c(i) times line r; a line with the multiplier 0
 // is left alone. The entries past the last column nobody asks for. Lines are read from the copy: read from s, they
 // would make the compiler copy the square once more.
-fn clear(s: Left, r: usize, p: usize, c: [u8; 80], rows: usize) -> Left
-    requires { ⌜ (r < 80) × (p < 80) × (rows ≤ 80) × (rows ≤ length (s .entries)) ⌝ }
+fn clear(s: Left, r: usize, p: usize, c: [u8; SIDE], rows: usize) -> Left
+    requires { ⌜ (r < side) × (p < side) × (rows ≤ side) × (rows ≤ length (s .entries)) ⌝ }
     ensures { λ z. ⌜ Cleared (λ i. getD c i 0) r rows (lifted r p (s .lines)) z ⌝ }
 {
     let mut z = s;
@@ -143,8 +146,8 @@ fn clear(s: Left, r: usize, p: usize, c: [u8; 80], rows: usize) -> Left
 }
 
 // The same for the right half, of whose entries nobody asks.
-fn follow(s: [Line; 80], r: usize, p: usize, c: [u8; 80], rows: usize) -> [Line; 80]
-    requires { ⌜ (r < 80) × (p < 80) × (rows ≤ 80) ⌝ }
+fn follow(s: [Line; SIDE], r: usize, p: usize, c: [u8; SIDE], rows: usize) -> [Line; SIDE]
+    requires { ⌜ (r < side) × (p < side) × (rows ≤ side) ⌝ }
     ensures { λ z. ⌜ z ≡ stepped (λ i. getD c i 0) r (lifted r p s) rows ⌝ }
 {
     let mut z = s;
@@ -165,12 +168,12 @@ fn follow(s: [Line; 80], r: usize, p: usize, c: [u8; 80], rows: usize) -> [Line;
     z
 }
 
-fn unit_square() -> [Line; 80]
-    ensures { λ z. ⌜ z ≡ unitSquare 80 ⌝ }
+fn unit_square() -> [Line; SIDE]
+    ensures { λ z. ⌜ z ≡ unitSquare side ⌝ }
 {
-    let mut z = [Line { c: [0u8; 80] }; 80];
+    let mut z = [Line { c: [0u8; SIDE] }; SIDE];
     let mut i: usize = 0;
-    while i < 80 {
+    while i < SIDE {
         let mut w = z[i];
         w.c[i] = 1;
         z[i] = w;
@@ -180,11 +183,11 @@ fn unit_square() -> [Line; 80]
 }
 
 // The square before the first step, with the entries of column 0.
-fn started(s: [Line; 80], rows: usize) -> Left
-    requires { ⌜ rows ≤ 80 ⌝ }
+fn started(s: [Line; SIDE], rows: usize) -> Left
+    requires { ⌜ rows ≤ side ⌝ }
     ensures { λ z. ⌜ (z .lines ≡ s) × EntriesOf (z .lines) 0 rows (z .entries) ⌝ }
 {
-    let zeros = [0u8; 80];
+    let zeros = [0u8; SIDE];
     let mut z = Left {
         lines: s,
         entries: zeros,
@@ -200,9 +203,9 @@ fn started(s: [Line; 80], rows: usize) -> Left
 }
 
 // The inverse of the square, or the square reduced as far as it goes.
-pub fn invert(s: [Line; 80], rows: usize, columns: usize) -> Eliminated
-    requires { ⌜ (rows ≤ 80) × (columns ≤ 80) ⌝ }
-    ensures { λ z. ⌜ z ≡ eliminated rows columns s (unitSquare 80) ⌝ }
+pub fn invert(s: [Line; SIDE], rows: usize, columns: usize) -> Eliminated
+    requires { ⌜ (rows ≤ side) × (columns ≤ side) ⌝ }
+    ensures { λ z. ⌜ z ≡ eliminated rows columns s (unitSquare side) ⌝ }
 {
     let mut a = started(s, rows);
     let mut t = unit_square();
@@ -234,9 +237,9 @@ pub fn invert(s: [Line; 80], rows: usize, columns: usize) -> Eliminated
 }
 
 // The verdict alone: half the work, for a survey.
-pub fn judge(s: [Line; 80], rows: usize, columns: usize) -> Verdict
-    requires { ⌜ (rows ≤ 80) × (columns ≤ 80) ⌝ }
-    ensures { λ z. ⌜ z ≡ eliminated rows columns s (unitSquare 80) .verdict ⌝ }
+pub fn judge(s: [Line; SIDE], rows: usize, columns: usize) -> Verdict
+    requires { ⌜ (rows ≤ side) × (columns ≤ side) ⌝ }
+    ensures { λ z. ⌜ z ≡ eliminated rows columns s (unitSquare side) .verdict ⌝ }
 {
     let mut a = started(s, rows);
     let mut r: usize = 0;

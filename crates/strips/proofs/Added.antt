@@ -2,20 +2,21 @@
 use mathlib.Core.Path.{_≡_, refl, sym, ap, ap₂, _∙_}
 use mathlib.Core.Bool.{Bool, true, false, _&&_, cond}
 use mathlib.Core.List.{List}
-use Prim.Native.Nat.{ℕ, _+_, _-_, _/_, _%_, _≤_, _<_, zero-le}
-use native.Mathlib.Nat.{zero-add}
+use Prim.Native.Nat.{ℕ, zero, suc, _+_, _-_, _/_, _%_, _^_, _≤_, _<_, zero-le}
+use native.Mathlib.Nat.{zero-add, pow-suc}
 use native.Mathlib.Decide.{decLt}
 use native.Mathlib.Omega.{arith}
 use lib.Dec.{leb, ltb}
 use lib.ListN.{length, getD, set, length-set, List·getD-eq-default}
 use lib.Seq.{ext-getD}
+use borrow.Author.Tests.{lt-ltb, le-ltb}
 use Rattle.lists.specs.Listed.{listed, patched}
 use Rattle.lists.proofs.Listed.{listed-length, listed-at, listed-ext}
 use Rattle.lists.proofs.Patched.{patched-ext, patched-length, patched-in, patched-out}
 use Rattle.lists.proofs.Patched.{patched-none, patched-next, patched-more}
 use Rattle.gf256.specs.Field.{_⊕_, _⊗_, double}
 use Rattle.gf256.proofs.Ring.{add-zero, add-assoc, mul-zero, zero-mul, one-mul, mul-turn}
-use Rattle.strips.specs.Strips.{stripAt, addedBy, addedScaled, addedStrip, doubledStrip}
+use Rattle.strips.specs.Strips.{stripAt, addedBy, addedScaled, addedStrip, doubledStrip, doubledWhile, usedUp}
 
 -- ---- the loop that adds: y is x with g of each of the first b bytes of src added
 pub record Adding (g : ℕ → ℕ) (at : ℕ) (src x : List ℕ) (b : ℕ) (y : List ℕ) : Type 0 where
@@ -103,6 +104,30 @@ module _ (at y : ℕ) (s x : List ℕ) (small : y < 256) (fits : at + length s �
       (listed-at (length s) _ b 0 h)
       ∙ bit-at (getD x (at + b) 0) (getD s b 0))
       ∙ patched-again at (length s) _ _ x
+
+-- what is left of the strip: where y is below 2 to the m, m doublings are as many as there are
+more-doublings : (m y : ℕ) (x : List ℕ) → y < 2 ^ m → doubledWhile m y x ≡ doubledWhile (suc m) y x
+unfolding doubledWhile
+more-doublings zero y x h = let e : y ≡ 0 = omega arith in rw e
+more-doublings (suc m) y x h =
+    ap (λ (z : List ℕ). cond (ltb 0 y) z x) (more-doublings m (y / 2) (doubledStrip x) (omega (arith, pow-suc 2 m)))
+
+pub doubled-next : (y : ℕ) (x : List ℕ) → 0 < y → y < 256 → doubledWhile 8 (y / 2) (doubledStrip x) ≡ doubledWhile 8 y x
+unfolding doubledWhile
+doubled-next y x some small =
+    sym (more-doublings 7 (y / 2) (doubledStrip x) (omega arith)) ∙ sym (rw (lt-ltb 0 y some))
+
+pub doubled-no-more : (x : List ℕ) → doubledWhile 8 0 x ≡ x
+unfolding doubledWhile
+doubled-no-more x = refl
+
+pub used-whole : (c : ℕ) (x : List ℕ) → 32 ≤ c → x ≡ usedUp c x
+unfolding usedUp
+used-whole c x h = rw (le-ltb c 32 h)
+
+pub used-by-bits : (c : ℕ) (x : List ℕ) → c < 32 → doubledWhile 8 (c / 2) x ≡ usedUp c x
+unfolding usedUp
+used-by-bits c x h = rw (lt-ltb c 32 h)
 
 -- f·y added to a list from its first entry on
 module _ (f : ℕ) (ys xs : List ℕ) where

@@ -20,7 +20,7 @@ use Prim.Native.Nat.{ℕ, zero, suc, _+_, _/_, _%_, _^_, _≤_, _<_}
 use lib.ListN.{length, getD, replicate}
 use Rattle.lists.specs.Listed.{listed}
 use Rattle.gf256.specs.Field.{_⊕_, double}
-use Rattle.strips.specs.Strips.{sumOf}
+use Rattle.strips.specs.Strips.{maxLength, sumOf}
 
 unfoldable pub shiftedBy : ℕ → List ℕ → List ℕ
 shiftedBy i ws = map (λ w. w / 2 ^ i) ws
@@ -64,6 +64,6 @@ pub record Alike (x s0 s1 s2 s3 : List ℕ) : Type 0 where
   pub same3 : length s3 ≡ length x
 
 pub record Lent (zeros src os : List ℕ) (n : ℕ) : Type 0 where
-  pub blank : zeros ≡ replicate 2048 0
-  pub short : n ≤ 2048
+  pub blank : zeros ≡ replicate maxLength 0
+  pub short : n ≤ maxLength
   pub inside : (j : ℕ) → j < length os → getD os j 0 + n ≤ length src

@@ -5,10 +5,15 @@ ghost use mathlib.Core.Bool.{true};
 ghost use Prim.Native.Nat.{ℕ, _+_, _*_, _%_, _^_, _<_, _≤_};
 ghost use lib.ListN.{length, take, drop, replicate};
 ghost use Rattle.lists.specs.Listed.{listed};
-ghost use Rattle.strips.specs.Strips.{combinationOf, SourcesFit, stripAt};
-ghost use Rattle.strips.specs.Strips.{addedScaled, addedStrip, doubledStrip};
+ghost use Rattle.strips.specs.Strips.{maxLength, combinationOf, SourcesFit, stripAt};
+ghost use Rattle.strips.specs.Strips.{addedScaled, addedStrip, doubledStrip, usedUp};
 ghost use Rattle.strips.specs.Planes.{bitsAt, planeOf, offsetsOf, doubledIf, addedWith};
 ghost use Rattle.strips.specs.Planes.{partOf, addedFour, Alike, Lent};
+
+// The most sources of a combination, and its longest strip.
+const MAX_SOURCES: usize = 80;
+
+const MAX_LENGTH: usize = 2048;
 
 // Copies the strip of src that starts at `at`.
 pub fn copy(dst: &mut [u8], src: &[u8], at: usize)
@@ -72,7 +77,8 @@ fn add_bit(x: &mut [u8], at: usize, strip: &[u8], y: u8)
 // doubled in place; from 32 on that can take longer than a product for each byte.
 pub fn add_multiple(x: &mut [u8], at: usize, strip: &mut [u8], c: u8)
     requires { ⌜ at + length (now strip) ≤ length (now x) ⌝ }
-    ensures { λ _. ⌜ now (x .exit) ≡ addedScaled c at (now (strip .entry)) (now (x .entry)) ⌝ }
+    ensures { λ _. ⌜ (now (x .exit) ≡ addedScaled c at (now (strip .entry)) (now (x .entry)))
+        × (now (strip .exit) ≡ usedUp c (now (strip .entry))) ⌝ }
 {
     if c >= 32 {
         add_scaled(x, at, strip, c);
@@ -209,7 +215,7 @@ fn plane<'a>(
     i: usize,
 )
     requires { ⌜ SourcesFit first stride (length (now weights)) (length (now dst)) (length (now src))
-        × (now zeros ≡ replicate 2048 0) × (length (now weights) ≤ length (now at)) × (i < 8) ⌝ }
+        × (now zeros ≡ replicate maxLength 0) × (length (now weights) ≤ length (now at)) × (i < 8) ⌝ }
     ensures { λ _. ⌜ now (dst .exit)
         ≡ planeOf i (now (weights .entry)) (now (src .entry)) first stride (now (dst .entry)) ⌝ }
 {
@@ -223,8 +229,8 @@ pub fn combine(dst: &mut [u8], src: &[u8], first: usize, stride: usize, weights:
     ensures { λ _. ⌜ now (dst .exit)
         ≡ combinationOf (now (weights .entry)) (now (src .entry)) first stride (length (now (dst .entry))) ⌝ }
 {
-    let zeros = [0u8; 2048];
-    let mut at = [0usize; 80];
+    let zeros = [0u8; MAX_LENGTH];
+    let mut at = [0usize; MAX_SOURCES];
     fill(dst, 0);
     let mut i: usize = 8;
     while i > 0 {

@@ -1,9 +1,9 @@
 // The survey of a profile: the sets of k nodes one after the other, each decided by elimination alone.
 ghost use mathlib.Core.Path.{_≡_};
-ghost use Prim.Native.Nat.{_+_, _≤_, _<_, min};
+ghost use Prim.Native.Nat.{_+_, _≤_, _<_};
 ghost use lib.ListN.{length};
 ghost use Rattle.ksets.specs.Sets.{sets, setAt, Rising};
-ghost use Rattle.document.specs.Profile.{Accepted};
+ghost use Rattle.document.specs.Profile.{maxNodes, Accepted};
 ghost use Rattle.document.specs.Reading.{ambiguous};
 ghost use Rattle.document.specs.Survey.{resultOf, surveyWith, surveyOf};
 ghost use Rattle.survey.specs.Steps.{Found};
@@ -31,7 +31,7 @@ fn fails(p: Profile, set: &[u8]) -> bool
 
 // The next set, if it is to be looked at.
 fn go_on(set: &mut [u8], n: usize, at: usize, end: usize)
-    requires { ⌜ (n ≤ 24) × (end ≤ sets n (length (now set))) × (at < end) ⌝ }
+    requires { ⌜ (n ≤ maxNodes) × (end ≤ sets n (length (now set))) × (at < end) ⌝ }
     requires { ⌜ now set ≡ setAt 0 n (length (now set)) at ⌝ }
     ensures { λ _. ⌜ (at + 1 < end → now (set .exit) ≡ setAt 0 n (length (now (set .entry))) (at + 1)) ⌝ }
 {
@@ -70,22 +70,15 @@ fn first_failing(p: Profile, set: &mut [u8], start: usize, end: usize) -> usize
     look(p, set, start, end)
 }
 
-// The smaller of two numbers.
-fn least(a: usize, b: usize) -> usize
-    ensures { λ r. ⌜ r ≡ min a b ⌝ }
-{
-    if a <= b { a } else { b }
-}
-
 // A survey that is not refused.
 fn survey_from(p: Profile, start: usize, most: usize, total: usize, set: &mut [u8]) -> Surveyed
     requires { ⌜ Accepted p × (total ≡ sets (p .n) (p .k)) × (start ≤ total) × (length (now set) ≡ p .k) ⌝ }
     ensures { λ r. ⌜ (r, now (set .exit)) ≡ resultOf p start most (now (set .entry)) ⌝ }
 {
     let k = p.k;
-    let looked = least(most, total - start);
+    let looked = lists::least(most, total - start);
     let end = start + looked;
-    let mut current = [0u8; 24];
+    let mut current = [0u8; Profile::MAX_NODES];
     let found = first_failing(p, &mut current[..k], start, end);
     if found < end {
         strips::copy(set, &current, 0);

@@ -7,8 +7,19 @@
 -- packedSurvey s   : a survey's answer: the number in the low byte, its value above it; with a refusal the value is 0
 -- packedSurveyWith pair : a survey's outcome with its answer packed
 -- SurveyFits       : no survey's position or number of sets needs more than 22 bits. Shown in proofs/Values.antt: survey-fits
+--
+-- What the header's macros take out of such a number w:
+-- unpackedNumber w   : WHAUPFIELD_NUMBER
+-- unpackedValue w    : WHAUPFIELD_VALUE
+-- unpackedOutcome w  : WHAUPFIELD_OUTCOME
+-- unpackedPosition w : WHAUPFIELD_POSITION
+-- unpackedLooked w   : WHAUPFIELD_LOOKED
+-- GivenBack          : they give number and value of every answer back. Shown in proofs/Values.antt: given-back
+-- SurveyGivenBack s  : and those of the survey's answer s
+-- SurveysGivenBack   : of every answer that a survey can give. Shown in proofs/Values.antt: surveys-given-back
+use mathlib.Core.Path.{_≡_}
 use mathlib.Core.List.{List}
-use Prim.Native.Nat.{ℕ, _+_, _*_, _^_, _<_}
+use Prim.Native.Nat.{ℕ, _+_, _*_, _/_, _%_, _^_, _<_}
 use Rattle.document.specs.declared.Numbers.{Numbers}
 use Rattle.document.specs.declared.Answer.{Answer}
 use Rattle.document.specs.declared.Surveyed.{Surveyed}
@@ -33,8 +44,42 @@ packedSurvey s =
 abbrev pub packedSurveyWith : {X : Type 0} → Surveyed × X → ℕ × X
 packedSurveyWith (answer, x) = (packedSurvey answer, x)
 
--- So nothing is lost by packing.
 abbrev pub SurveyFits : Type 0
 SurveyFits =
     (p : Numbers) (start most : ℕ) (x : List ℕ)
     → (failingPosition (surveyOf p start most x .0) < 2 ^ 22) × (lookedIn (surveyOf p start most x .0) < 2 ^ 22)
+
+-- (w) & 0xFF
+abbrev pub unpackedNumber : ℕ → ℕ
+unpackedNumber w = w % 256
+
+-- (w) >> 8
+abbrev pub unpackedValue : ℕ → ℕ
+unpackedValue w = w / 256
+
+-- (w) >> 8 & 3
+abbrev pub unpackedOutcome : ℕ → ℕ
+unpackedOutcome w = w / 2 ^ 8 % 4
+
+-- (w) >> 10 & 0x3FFFFF
+abbrev pub unpackedPosition : ℕ → ℕ
+unpackedPosition w = w / 2 ^ 10 % 2 ^ 22
+
+-- (w) >> 32
+abbrev pub unpackedLooked : ℕ → ℕ
+unpackedLooked w = w / 2 ^ 32
+
+-- So nothing is lost by packing.
+abbrev pub GivenBack : Type 0
+GivenBack =
+    (answer : Answer)
+    → (unpackedNumber (packed answer) ≡ answerNumber answer) × (unpackedValue (packed answer) ≡ answerValue answer)
+
+pub record SurveyGivenBack (s : Surveyed) : Type 0 where
+  pub number : unpackedNumber (packedSurvey s) ≡ answerNumber (surveyAnswer s)
+  pub outcome : unpackedOutcome (packedSurvey s) ≡ outcomeNumber s
+  pub position : unpackedPosition (packedSurvey s) ≡ failingPosition s
+  pub looked : unpackedLooked (packedSurvey s) ≡ lookedIn s
+
+abbrev pub SurveysGivenBack : Type 0
+SurveysGivenBack = (p : Numbers) (start most : ℕ) (x : List ℕ) → SurveyGivenBack (surveyOf p start most x .0)

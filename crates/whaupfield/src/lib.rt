@@ -117,8 +117,8 @@ pub extern "C" fn whaupfield_read_back(
     pack(reading::read_back(Numbers { n, k, a, t, s }, nodes, columns, output))
 }
 
-// The value of a survey's answer, above the low byte: the outcome in two bits, the position and the number of sets looked
-// at in 22 bits each.
+// The value of a survey's answer, above the low byte: the outcome in two bits, the position and the number of sets
+// looked at in 22 bits each.
 fn pack_outcome(outcome: u64, position: usize, looked: usize) -> u64
     requires { ⌜ (outcome < 4) × (position < 2 ^ 22) × (looked < 2 ^ 22) ⌝ }
     ensures { λ r. ⌜ r ≡ 256 * outcomePacked outcome position looked ⌝ }

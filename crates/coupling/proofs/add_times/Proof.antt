@@ -61,7 +61,7 @@ returns-3 : tie.Need-returns-3
 returns-3 c =
     let w = c .before .before .before .before .before .before .before in
     let a = start w .args in
-    c .before .before .before .add-multiple .ensures
+    c .before .before .before .add-multiple .ensures .0
     ∙ ap (λ (z : List ℕ). addedScaled (a .c) 0 z (a .x .now)) (front (u w) _ (ap length (copied w)) ∙ copied w)
 
 pub add-times-spec : {M : Type 1} → statement M

@@ -94,7 +94,7 @@ returns c =
     let added = c .before .before .before .before .before .before .before .before in
     let w = added .before .before .before .before in
     let a = (start w) .args in
-    c .before .before .before .add-multiple .ensures
+    c .before .before .before .add-multiple .ensures .0
     ∙ ap (addedScaled (a .t) (a .lower) _) (added .add .ensures)
     ∙ both-added (a .t) (a .upper) (a .lower) (a .s) (x w) ((start w) .pre .1) _ _
     (front (u w) _ (upper-size w) ∙ upper w) (front (v w) _ (lower-size w) ∙ lower w)

@@ -1,4 +1,5 @@
--- `document::accepts_shape` meets its contract: each return has found a condition that fails, the last one all that hold.
+-- `document::accepts_shape` meets its contract: each return has found a condition that fails, the last one all that
+-- hold.
 use native.Mathlib.Omega.{arith}
 use mathlib.Core.Path.{sym}
 use borrow.Author.Needs.{needs}

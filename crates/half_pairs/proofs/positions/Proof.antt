@@ -6,7 +6,7 @@ use native.Mathlib.Omega.{arith}
 use lib.ListN.{set}
 use Rattle.lists.specs.Listed.{listed}
 use Rattle.ksets.proofs.Ranked.{risen-length}
-use Rattle.document.proofs.Reading.{rising-below}
+use Rattle.document.proofs.Joined.{rising-below}
 use Rattle.half_pairs.specs.HalfPairs.{named}
 use Rattle.half_pairs.proofs.Named.{placed, placed-none, placed-next, placed-all}
 use Rattle.half_pairs.proofs.positions.Statement.{statement}

@@ -18,7 +18,7 @@ price-spec =
     (tie.spec
     (λ c. search needs)
     sub-others
-    (λ c. search needs)
+    (λ c κs. search needs)
     (λ c. search needs)
     (λ c. search needs)
     (λ c. search needs)

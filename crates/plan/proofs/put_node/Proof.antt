@@ -1,4 +1,5 @@
--- `plan::put_node` meets its contract: the places read at the node are its row c, and the partner where the test says so.
+-- `plan::put_node` meets its contract: the places read at the node are its row c, and the partner where the test says
+-- so.
 use mathlib.Core.Path.{_≡_, sym, ap, _∙_}
 use mathlib.Core.List.{List, [], _∷_}
 use Prim.Native.Nat.{_+_, _≤_}

@@ -4,12 +4,12 @@ use mathlib.Core.List.{List}
 use Prim.Native.Nat.{ℕ, _≤_, _<_}
 use native.Mathlib.Omega.{arith}
 use borrow.Author.Needs.{needs}
-use lib.ListN.{length, getD, take, length-take}
+use lib.ListN.{length, getD, take}
 use lib.Seq.{length-take-le}
-use Rattle.lists.proofs.Put.{wrote-same}
+use Rattle.lists.proofs.Put.{wrote-same, wrote-front, wrote-fits}
 use Rattle.lists.specs.Each.{Each}
 use Rattle.lists.proofs.Each.{each-at}
-use Rattle.document.specs.Plan.{planBytes, planned}
+use Rattle.document.specs.Plan.{walkOf, nodesOver, planBytes, planned}
 use Rattle.plan.specs.Steps.{placesOf}
 use Rattle.plan.proofs.Walked.{nodes-below, plan-places}
 use Rattle.plan.proofs.put_plan.Statement.{statement}
@@ -24,19 +24,20 @@ module _ (c : tie.After-list-nodes) where
   nodes = take (c .list-nodes .result) (c .list-nodes .last .0)
 
   fits : c .list-nodes .result ≤ length (c .list-nodes .last .0)
-  fits =
-      let w = c .list-nodes .ensures in
-      omega (arith, w .0, ap length (w .1), length-take (c .list-nodes .result) (c .list-nodes .last .0))
+  fits = wrote-fits (c .list-nodes .ensures)
+
+  listed : nodes ≡ nodesOver (start .args .p .k) (walkOf (start .args .p) (start .args .f))
+  listed = wrote-front (c .list-nodes .ensures) .1
 
   below : (i : ℕ) → i < length nodes → getD nodes i 0 < start .args .p .n
   below =
-      each-at 0 (subst (Each (λ j. j < start .args .p .n)) (sym (c .list-nodes .ensures .1))
+      each-at 0 (subst (Each (λ j. j < start .args .p .n)) (sym listed)
       (nodes-below (start .args .p) (start .pre .0) (start .args .f) (start .pre .1)))
 
   bytes : planBytes (placesOf (start .args .p .a) (start .args .f) nodes)
       ≡ planBytes (planned (start .args .p) (start .args .f))
   bytes =
-      ap (λ (js : List ℕ). planBytes (placesOf (start .args .p .a) (start .args .f) js)) (c .list-nodes .ensures .1)
+      ap (λ (js : List ℕ). planBytes (placesOf (start .args .p .a) (start .args .f) js)) listed
       ∙ ap planBytes (plan-places (start .args .p) (start .pre .0) (start .args .f) (start .pre .1))
 
 array-share-prefix-nodes : tie.Need-array-share-prefix-nodes

@@ -1,5 +1,5 @@
--- `reading::accepts_list` meets its contract. The invariant: the list is accepted exactly if what is left of it is, from
--- the lowest number on that may come next.
+-- `reading::accepts_list` meets its contract. The invariant: the list is accepted exactly if what is left of it is,
+-- from the lowest number on that may come next.
 use mathlib.Core.Path.{_≡_, sym, ap, _∙_}
 use Prim.Native.Nat.{ℕ, _-_, _≤_}
 use native.Mathlib.Omega.{arith}

@@ -158,7 +158,7 @@ returns c =
     let f = w .before .before .before .before in
     let s = begun w in
     let y = s .args .y .now in
-    a .add-multiple .ensures
+    a .add-multiple .ensures .0
     ∙ ap₂ (λ (v : ℕ) (l : List ℕ). addedScaled v (z s * p s .s) l y) (factor f) (front (u w) _ (written w) ∙ solved w)
     ∙ ap
     (λ (m : ℕ). addedScaled (number (factorAt (p s) (m % p s .a) (named (nodes s) (m / p s .a) % p s .a))) (m * p s .s)

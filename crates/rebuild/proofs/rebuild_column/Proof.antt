@@ -6,10 +6,11 @@ use Prim.Native.Nat.{ℕ, _+_, _-_, _*_, _≤_}
 use native.Mathlib.Nat.{mul-le-mul}
 use native.Mathlib.Omega.{arith}
 use borrow.Author.Needs.{needs}
-use lib.ListN.{length, take, drop, replicate, length-take}
+use lib.ListN.{length, take, drop, replicate}
 use lib.Seq.{length-take-le}
+use Rattle.lists.proofs.Put.{wrote-front, wrote-fits}
 use Rattle.lists.proofs.Lent.{front-fits, front}
-use Rattle.document.specs.Plan.{walkOf, chosenOver, planned}
+use Rattle.document.specs.Plan.{walkOf, nodesOver, chosenOver, planned}
 use Rattle.document.specs.Rebuild.{givenAt, rebuiltOf}
 use Rattle.plan.proofs.Walked.{nodes-count}
 use Rattle.rebuild.specs.Folded.{foldedOf}
@@ -31,9 +32,10 @@ module _ (c : tie.After-list-nodes) where
   nodes = take count (c .list-nodes .last .0)
 
   nodes-fit : count ≤ length (c .list-nodes .last .0)
-  nodes-fit =
-      let w = c .list-nodes .ensures in
-      omega (arith, w .0, ap length (w .1), length-take count (c .list-nodes .last .0))
+  nodes-fit = wrote-fits (c .list-nodes .ensures)
+
+  plan-nodes : nodes ≡ nodesOver (start .args .p .k) (walkOf (start .args .p) (start .args .f))
+  plan-nodes = wrote-front (c .list-nodes .ensures) .1
 
   nodes-length : length nodes ≡ count
   nodes-length = length-take-le count (c .list-nodes .last .0) nodes-fit
@@ -44,7 +46,7 @@ module _ (c : tie.After-list-nodes) where
       let p = start .args .p in
       let acc = start .pre .0 .0 in
       let size : count ≡ p .a - 1 + p .k =
-      c .list-nodes .ensures .0 ∙ nodes-count p acc (start .args .f) (start .pre .0 .1) in
+      wrote-front (c .list-nodes .ensures) .0 ∙ nodes-count p acc (start .args .f) (start .pre .0 .1) in
       mul-le-mul {n₁ = count} {m₁ = p .s} {n₂ = 24} {m₂ = 512}
       (omega (arith, size, acc .shape .enough-parity, acc .shape .few-nodes, acc .shape .some-parity)) (acc .short)
 
@@ -67,7 +69,7 @@ fold-strips-requires : tie.Need-fold-strips-requires
 fold-strips-requires c κs =
     let w = c .before .before .before .before in
     let s = start w in (
-      (s .pre .0 .0, s .pre .0 .1, w .list-nodes .ensures .1),
+      (s .pre .0 .0, s .pre .0 .1, plan-nodes w),
       (
         sym (slice-aggregate-fold-strips (c .before)) ∙ ap (λ (m : ℕ). m * s .args .p .s) (sym (nodes-length w)),
         s .pre .1,
@@ -114,7 +116,7 @@ rebuild-rows-requires : tie.Need-rebuild-rows-requires
 rebuild-rows-requires c κs =
     let w = listed (c .before .before .before .before) in
     let s = start w in (
-      (s .pre .0 .0, s .pre .0 .1, w .list-nodes .ensures .1),
+      (s .pre .0 .0, s .pre .0 .1, plan-nodes w),
       (
         s .pre .0 .2,
         sym (slice-aggregate-rebuild-rows (c .before)) ∙ ap (λ (m : ℕ). m * s .args .p .s) (sym (nodes-length w)),
@@ -131,7 +133,7 @@ returns c =
     let f = s .args .f in
     r .rebuild-rows .ensures
     ∙ ap (rowsOf p f ((walkOf p f) .own) (chosenOver (p .k) (walkOf p f)))
-    (lent w ∙ ap (folded w) (listed w .list-nodes .ensures .1))
+    (lent w ∙ ap (folded w) (plan-nodes (listed w)))
     ∙ column-rebuilt p (s .pre .0 .0) f (s .pre .0 .1) _
 
 pub rebuild-column-spec : {M : Type 1} → statement M

@@ -1,5 +1,6 @@
--- `rebuild_answer::put_answer` meets its contract: the column stays where it was rebuilt, a line is written over it.
-use mathlib.Core.Path.{_≡_, sym, _∙_}
+-- `rebuild_answer::put_answer` meets its contract: the column stays where it was rebuilt; a refused rebuild changes no
+-- byte, and the line is written over what was there.
+use mathlib.Core.Path.{_≡_, refl, sym, _∙_}
 use mathlib.Core.List.{_++_}
 use Prim.Native.Nat.{_*_, _≤_, min}
 use native.Mathlib.Nat.{mul-le-mul}
@@ -64,8 +65,8 @@ put-line-requires c κs =
 returns : tie.Need-returns
 returns c =
     let r = c .before .before .before .before in
-    column-answered _ _ (same r) _ (lent r) (r .rebuild-input .ensures) (c .enum-told .given .1) _ _
-    (r .rebuild-input .kept .1 .1 .0 ∙ fits r)
+    column-answered _ _ (same r) _ (lent r) (r .rebuild-input .ensures) (c .enum-told .given .1)
+    (start r .args .out .now) (least r .least .result) (r .rebuild-input .kept .1 .1 .0 ∙ fits r)
 
 returns-2 : tie.Need-returns-2
 returns-2 c =
@@ -73,7 +74,7 @@ returns-2 c =
     let o = w .before .before .before in
     let r = o .before .before .before .before in
     line-answered _ _ (same r) _ (lent r) (r .rebuild-input .ensures) (o .outcome .given .1)
-    (omega (arith, w .put-line .kept .0, whole r, start r .pre)) (w .put-line .ensures)
+    (start r .args .out .now) (least r .least .result) refl (w .put-line .ensures)
 
 pub put-answer-spec : {M : Type 1} → statement M
 put-answer-spec =
