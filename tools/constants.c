@@ -5,7 +5,7 @@
 
 #include "whaupfield.h"
 
-enum { FIRST_T = 2, LAST_T = 255, CONSTANTS = LAST_T - FIRST_T + 1, MOST_NODES = 24 };
+enum { FIRST_T = 2, LAST_T = 255, CONSTANTS = LAST_T - FIRST_T + 1 };
 
 /* A sample is runs of RUN sets that follow each other, the runs evenly over all sets. All t are tried on FIRST_RUNS
  * runs; the best quarter of them is tried on four times as many, and so on until one is left. The last four t are tried
@@ -50,7 +50,7 @@ static uint64_t survey(const struct shape *shape, size_t t, size_t start, size_t
  * and gives that t; 0 if each has one. */
 static size_t next_round(const struct shape *shape, size_t *starts)
 {
-    uint8_t set[MOST_NODES];
+    uint8_t set[WHAUPFIELD_MAX_NODES];
 
     for (size_t t = FIRST_T; t <= LAST_T; t++) {
         uint64_t answer = survey(shape, t, starts[t], SIZE_MAX, set);
@@ -77,7 +77,7 @@ static struct constant best_of_all(const struct shape *shape, size_t *starts)
 /* The failing sets among the positions from start to before end. */
 static size_t failing_between(const struct shape *shape, size_t t, size_t start, size_t end)
 {
-    uint8_t set[MOST_NODES];
+    uint8_t set[WHAUPFIELD_MAX_NODES];
     size_t failing = 0;
     uint64_t answer = survey(shape, t, start, end - start, set);
 
@@ -170,7 +170,7 @@ static void print_lost(const struct shape *shape, size_t t, const uint8_t *set)
 
 static void print_all_lost(const struct shape *shape, struct constant constant)
 {
-    uint8_t set[MOST_NODES];
+    uint8_t set[WHAUPFIELD_MAX_NODES];
     size_t start = 0;
 
     for (size_t found = 0; found < constant.failing; found++) {
@@ -200,11 +200,11 @@ static void print_shape(const struct shape *shape)
 /* By rising A, then n, then k. */
 static void print_accepted(void)
 {
-    uint8_t set[MOST_NODES];
+    uint8_t set[WHAUPFIELD_MAX_NODES];
 
     /* A shape is accepted if a survey of none of its sets is not refused. */
-    for (size_t a = 0; a <= MOST_NODES; a++)
-        for (size_t n = 0; n <= MOST_NODES; n++)
+    for (size_t a = 0; a <= WHAUPFIELD_MAX_ROWS; a++)
+        for (size_t n = 0; n <= WHAUPFIELD_MAX_NODES; n++)
             for (size_t k = 0; k <= n; k++)
                 if (WHAUPFIELD_NUMBER(whaupfield_survey(n, k, a, FIRST_T, 1, 0, 0, set, k)) == 0)
                     printf("%zu %zu %zu\n", n, k, a);
@@ -213,7 +213,7 @@ static void print_accepted(void)
 int main(int count, char **arguments)
 {
     struct shape shape;
-    uint8_t set[MOST_NODES];
+    uint8_t set[WHAUPFIELD_MAX_NODES];
 
     if (count == 1) {
         print_accepted();
@@ -226,8 +226,8 @@ int main(int count, char **arguments)
     shape.n = strtoul(arguments[1], NULL, 10);
     shape.k = strtoul(arguments[2], NULL, 10);
     shape.a = strtoul(arguments[3], NULL, 10);
-    if (shape.n > MOST_NODES || shape.k > shape.n) {
-        fprintf(stderr, "constants: wants n up to %d, and k below n\n", MOST_NODES);
+    if (shape.n > WHAUPFIELD_MAX_NODES || shape.k > shape.n) {
+        fprintf(stderr, "constants: wants n up to %d, and k below n\n", WHAUPFIELD_MAX_NODES);
         return 1;
     }
     /* Ends here if the shape is not accepted. */
