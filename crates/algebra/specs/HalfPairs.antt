@@ -13,7 +13,8 @@
 -- ..                           : A k point θ s position
 -- Positions k s position       : `position` is what it is called here
 -- opposite A s i q             : the node of the partner of row i, named node q
--- Selected K m U Closed o      : a sum over the numbers below m is that over o 0 .. o (U-1), if each closed number gives 𝟘
+-- Selected K m U Closed o      : a sum over the numbers below m is that over o 0 .. o (U-1), if each closed number
+--                                gives 𝟘
 -- weightAt K k point s q j     : the weight of named node q at node j
 -- halfFactor K .. i q          : the factor of the partner of row i, named node q; 𝟘 where the partner is named
 -- known K .. x i q             : what the strips x give of the base symbol at row i, named node q: all of it where the

@@ -2,7 +2,8 @@
 --
 -- bytes    : the field
 -- Byte     : its elements
--- byte a   : the element with the number a, 'the field element with that number'; above 255, its lowest eight bits count
+-- byte a   : the element with the number a, 'the field element with that number'; above 255, its lowest eight bits
+--            count
 -- number b : the number of the element b
 use mathlib.Core.Path.{_≡_, ap}
 use Prim.Native.Nat.{ℕ, _%_, _<_, Fin}

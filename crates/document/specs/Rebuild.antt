@@ -3,12 +3,13 @@
 -- positionOf q qs                 : where the place q stands in the list qs, from 0; past its end if it does not
 -- givenAt qs src first stride b q : byte b of the strip given for the place q: strip i of src, which starts at
 --                                   first + i·stride, is given for place i of qs
--- rebuiltOver p f w x             : the column of f rebuilt from x over the walk w, where x b q is byte b at the place q
+-- rebuiltOver p f w x             : the column of f rebuilt from x over the walk w, where x b q is byte b at the place
+--                                   q
 -- rebuiltOf p f src first stride  : the column of f rebuilt from the strips of src, given in plan order
 -- firstStrip p                    : where the first strip of a bundle starts
 -- rebuildTests p f r b y          : the refusals of a rebuild past those of a profile, in their order
--- rebuildWith p f r b y           : rebuilding from the bundle b into y with the profile p: the answer, and what y holds
---                                   then
+-- rebuildWith p f r b y           : rebuilding from the bundle b into y with the profile p: the answer, and what y
+--                                   holds then
 -- rebuildOf p f r b y             : the same for any numbers p
 --
 -- Nothing in this file has to be believed. positionOf, givenAt, rebuiltOver and firstStrip only compute, the column by

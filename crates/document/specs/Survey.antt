@@ -9,8 +9,8 @@
 -- surveyTests p start x      : the refusals of a survey past those of a profile, in their order
 -- surveyWith p start most x  : the survey into x with the profile p: the answer, and what x holds then
 -- surveyOf p start most x    : the same for any numbers p; `most` is document 01's B
--- surveyAnswer s             : the survey's answer as that of any call: refused, or answered, with the number of sets looked
---                              at
+-- surveyAnswer s             : the survey's answer as that of any call: refused, or answered, with the number of sets
+--                              looked at
 -- outcomeNumber s            : which of the three outcomes it is: 1 failing, 2 done, 3 open; 0 where it is refused
 -- failingPosition s          : the failing position; 0 where there is none
 -- lookedIn s                 : the number of sets looked at; 0 where it is refused

@@ -6,16 +6,16 @@
 -- positionTable nodes        : where each node below maxNodes stands among the nodes
 -- named nodes q              : the q-th named node
 -- isNamed k nodes j          : the test whether node j is one of the k named nodes
--- weightRow k nodes j        : the weight at node j of each of the k named nodes, where j is none of them; otherwise zeros,
---                              which nobody asks for
+-- weightRow k nodes j        : the weight at node j of each of the k named nodes, where j is none of them; otherwise
+--                              zeros, which nobody asks for
 -- partnerAt p nodes z        : the partner of strip z of the named nodes' columns
 -- isHalfPair p nodes z       : the test whether strip z is a half pair
 -- halfPairs p nodes          : the numbers of the half pairs, rising
 -- halfPairAt p nodes e       : the e-th half pair
 -- nodeWeights p nodes        : the rows of weights of all nodes, node after node
 -- weightTable p nodes        : the same in a table with room for maxNodes times maxNodes, with zeros past them
--- coefficientIn p nodes r y  : the coefficient of the partner of strip y in the equation for the base symbol at the place
---                              r; 𝟘 where y is in another row
+-- coefficientIn p nodes r y  : the coefficient of the partner of strip y in the equation for the base symbol at the
+--                              place r; 𝟘 where y is in another row
 -- systemAt p nodes e f       : the entry of the system for the e-th and the f-th half pair
 -- systemLine p nodes e       : its line e, in `side` bytes: zeros past its entries
 -- systemSquare p nodes       : the system in an array of `side` lines: zeros past its lines

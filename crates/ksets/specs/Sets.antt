@@ -10,8 +10,8 @@
 -- Smaller u v          : u stands before v in lexicographic order
 -- run b k              : b, b + 1, .., k numbers
 -- full n set           : no entry of set can be raised, with those after it, and stay below n
--- nextOf n set         : the next set of the nodes below n: the last entry that can be raised is raised by one, and those
---                        after it follow at once
+-- nextOf n set         : the next set of the nodes below n: the last entry that can be raised is raised by one, and
+--                        those after it follow at once
 use mathlib.Core.Bool.{Bool, true, _&&_, cond}
 use mathlib.Core.List.{List, [], _∷_}
 use Prim.Native.Nat.{ℕ, zero, suc, _+_, _-_, _≤_, _<_}

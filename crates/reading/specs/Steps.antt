@@ -2,10 +2,11 @@
 -- for row i of the q-th named node. x are the joined columns, y strips of the named nodes, r right-hand sides of the
 -- system of the half pairs, a strip for each.
 --
--- knownStrip p nodes x z            : what x gives of the base symbols of strip z: all of them where its partner is named,
---                                     otherwise the stored ones
+-- knownStrip p nodes x z            : what x gives of the base symbols of strip z: all of them where its partner is
+--                                     named, otherwise the stored ones
 -- knownStrips p nodes x             : the same of all strips
--- knownPartnerStrip p nodes y z     : the sum of the strips y of one row, with the weights at the partner of the half pair z
+-- knownPartnerStrip p nodes y z     : the sum of the strips y of one row, with the weights at the partner of the half
+--                                     pair z
 -- knownPartnerStrips p nodes y      : the same for each half pair, in their order: the right-hand sides
 -- partnerStrip p nodes line r       : the sum of the right-hand sides with a line of the inverse: a half pair's partner
 -- completedStrip p nodes line r e y : y with it added to the e-th half pair, times its factor
@@ -13,7 +14,8 @@
 -- baseColumn p nodes y j            : the base strips of node j, from those of the named nodes, y
 -- baseColumns p nodes y             : those of the data nodes: the data
 -- dataBy p nodes lines x            : the data, by the lines of the inverse of the system
--- readingAnswer p nodes x y         : what reading back in due form answers and leaves in y, the buffer lent for the data
+-- readingAnswer p nodes x y         : what reading back in due form answers and leaves in y, the buffer lent for the
+--                                     data
 use mathlib.Core.Bool.{cond}
 use mathlib.Core.List.{List}
 use Prim.Native.Nat.{ℕ, zero, suc, _*_, _/_, _%_}

@@ -148,7 +148,8 @@ fn row_coefficients(
 )
     requires { ⌜ Accepted p × (f .0 < p .n) × (i < p .a) ⌝ }
     requires { ⌜ (length (now nodes) ≡ p .k) × Different (now nodes) × Outside (now nodes) (memberAt p f i) ⌝ }
-    requires { ⌜ (now denominators ≡ denominatorsOf (now nodes)) × (now determinants ≡ determinantsOf p f (now nodes)) ⌝ }
+    requires { ⌜ (now denominators ≡ denominatorsOf (now nodes))
+        × (now determinants ≡ determinantsOf p f (now nodes)) ⌝ }
     requires { ⌜ length (now out) ≡ p .k ⌝ }
     ensures { λ _. ⌜ now (out .exit) ≡ coefficientsOf p f (now (nodes .entry)) i ⌝ }
 {

@@ -8,8 +8,8 @@
 -- strip j i v         : a field 03 for node j, row i with the strip v of one byte
 -- lent m              : a buffer of m bytes that is lent
 -- rebuilt f fields    : the outcome of a rebuild of node f from such a bundle
--- surveyed t start B  : the outcome of a survey as one list: number, outcome (1 failing, 2 done, 3 open), position, sets
---                       looked at, bytes
+-- surveyed t start B  : the outcome of a survey as one list: number, outcome (1 failing, 2 done, 3 open), position,
+--                       sets looked at, bytes
 -- marked              : the cases
 -- shown               : what the cases give is what document 01 says
 use mathlib.Core.Path.{_≡_, refl}
@@ -188,13 +188,14 @@ marked =
 
 -- Each marked case gives what document 01 says.
 pub shown : map (λ c. c .gives) marked ≡ map (λ c. c .says) marked
-unfolding marked lent encodeOf encodeWith encodeTests onAccepted profileTests shapeAccepted constantAccepted stripAccepted tried
-    answerNumber answerValue encoded laidOut coupledAt constantOf baseAt byteAt start listed sum weight byte
-    number bytes _⊕_ _⊗_ double bitProduct squares inverse ℕ-discrete decLt planOf planWith planTests planned
-    pairsAt planBytes isOwn isDiagonal isOffDiagonal rising rebuildOf rebuildWith rebuildTests bundleTests messageTests opened formed headed
-    placed fresh placeIn recordingIn stripFieldStart plannedAt slice same all opening twoBytes fourBytes
-    profileContent lostContent recordingBytes rebuiltOf rebuiltOver givenAt positionOf samePlace columnOf
-    rebuiltAt rowSymbol otherAt base factor readOf readWith readTests listAccepted numberOf ambiguous indexOf eliminationOf squareOf
-    coefficientLine coefficientAt endFrom pivotIn lifted stepped filled multiplierAt addedScaled patched unitSquare unitLine
-    surveyOf surveyWith surveyTests resultOf foundFrom failsAt firstIn sets setAt surveyAnswer outcomeNumber failingPosition lookedIn
+unfolding marked lent encodeOf encodeWith encodeTests onAccepted profileTests shapeAccepted constantAccepted
+    stripAccepted tried answerNumber answerValue encoded laidOut coupledAt constantOf baseAt byteAt start listed sum
+    weight byte number bytes _⊕_ _⊗_ double bitProduct squares inverse ℕ-discrete decLt planOf planWith planTests
+    planned pairsAt planBytes isOwn isDiagonal isOffDiagonal rising rebuildOf rebuildWith rebuildTests bundleTests
+    messageTests opened formed headed placed fresh placeIn recordingIn stripFieldStart plannedAt slice same all
+    opening twoBytes fourBytes profileContent lostContent recordingBytes rebuiltOf rebuiltOver givenAt positionOf
+    samePlace columnOf rebuiltAt rowSymbol otherAt base factor readOf readWith readTests listAccepted numberOf
+    ambiguous indexOf eliminationOf squareOf coefficientLine coefficientAt endFrom pivotIn lifted stepped filled
+    multiplierAt addedScaled patched unitSquare unitLine surveyOf surveyWith surveyTests resultOf foundFrom failsAt
+    firstIn sets setAt surveyAnswer outcomeNumber failingPosition lookedIn
 shown = refl

@@ -6,7 +6,8 @@
 --                    number of sets looked at in 22 bits each
 -- packedSurvey s   : a survey's answer: the number in the low byte, its value above it; with a refusal the value is 0
 -- packedSurveyWith pair : a survey's outcome with its answer packed
--- SurveyFits       : no survey's position or number of sets needs more than 22 bits. Shown in proofs/Values.antt: survey-fits
+-- SurveyFits       : no survey's position or number of sets needs more than 22 bits. Shown in proofs/Values.antt:
+--                    survey-fits
 --
 -- What the header's macros take out of such a number w:
 -- unpackedNumber w   : WHAUPFIELD_NUMBER
