@@ -14,7 +14,8 @@
  * A profile is n (nodes), k (data nodes), a (rows), t (coupling constant), s (strip length in bytes). Nodes and rows
  * count from 0. In memory the strip of row i, node j starts at (j*a + i) * s, so a node's column is its a strips, row 0
  * first; data use the same order with j < k. One call is about one array. A recording of more data than an array holds
- * is many arrays, and nothing in a bundle tells two arrays of one recording apart: the host keeps them apart.
+ * is many arrays, and nothing in a bundle tells two arrays of one recording, or two runs of one scenario, apart: the
+ * host keeps them apart.
  *
  * Answers, the same for every call: WHAUPFIELD_NUMBER is 0 on success, otherwise the number of the refusal;
  * WHAUPFIELD_VALUE is what comes with it. On success each call below says what that is. With WHAUPFIELD_MISPLACED and

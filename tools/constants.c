@@ -118,8 +118,8 @@ static void sort_by_sample(const struct shape *shape, struct constant *constants
     qsort(constants, count, sizeof *constants, compare);
 }
 
-/* The constant that larger and larger samples leave, counted whole. */
-static struct constant best_of_samples(const struct shape *shape)
+/* The t that larger and larger samples leave. */
+static size_t best_of_samples(const struct shape *shape)
 {
     struct constant constants[CONSTANTS];
     size_t runs = FIRST_RUNS;
@@ -130,8 +130,37 @@ static struct constant best_of_samples(const struct shape *shape)
         sort_by_sample(shape, constants, left, runs);
         runs *= 4;
     }
-    constants[0].failing = failing_between(shape, constants[0].t, 0, shape->sets);
-    return constants[0];
+    return constants[0].t;
+}
+
+static struct constant counted_whole(const struct shape *shape, size_t t)
+{
+    struct constant constant = {t, failing_between(shape, t, 0, shape->sets)};
+
+    return constant;
+}
+
+/* A shape is accepted if a survey of none of its sets is not refused. */
+static int accepted(size_t n, size_t k, size_t a)
+{
+    uint8_t set[WHAUPFIELD_MAX_NODES];
+
+    return WHAUPFIELD_NUMBER(whaupfield_survey(n, k, a, FIRST_T, 1, 0, 0, set, k)) == 0;
+}
+
+/* The better of the t that samples leave for this shape and the t that they leave for (n,n-k,A), which often serves
+ * both; each counted whole. */
+static struct constant best_of_two(const struct shape *shape)
+{
+    const struct shape other = {shape->n, shape->n - shape->k, shape->a, shape->sets};
+    struct constant best = counted_whole(shape, best_of_samples(shape));
+
+    if (accepted(other.n, other.k, other.a)) {
+        struct constant second = counted_whole(shape, best_of_samples(&other));
+        if (compare(&second, &best) < 0)
+            best = second;
+    }
+    return best;
 }
 
 static void print_number(size_t number)
@@ -190,7 +219,7 @@ static void print_shape(const struct shape *shape)
         best = best_of_all(shape, starts);
         print_row(shape, best, "all t");
     } else {
-        best = best_of_samples(shape);
+        best = best_of_two(shape);
         print_row(shape, best, "samples");
     }
     if (best.failing <= FEW)
@@ -200,13 +229,10 @@ static void print_shape(const struct shape *shape)
 /* By rising A, then n, then k. */
 static void print_accepted(void)
 {
-    uint8_t set[WHAUPFIELD_MAX_NODES];
-
-    /* A shape is accepted if a survey of none of its sets is not refused. */
     for (size_t a = 0; a <= WHAUPFIELD_MAX_ROWS; a++)
         for (size_t n = 0; n <= WHAUPFIELD_MAX_NODES; n++)
             for (size_t k = 0; k <= n; k++)
-                if (WHAUPFIELD_NUMBER(whaupfield_survey(n, k, a, FIRST_T, 1, 0, 0, set, k)) == 0)
+                if (accepted(n, k, a))
                     printf("%zu %zu %zu\n", n, k, a);
 }
 

@@ -233,22 +233,22 @@ fn put_rows(column: &mut [u8], folded: &[u8], p: Profile, f: Node, own: &[u8], c
     coefficients::denominators(chosen, &mut denominators[..k]);
     let mut determinants = [0u8; Profile::MAX_NODES];
     pair_determinants(p, f, chosen, &mut determinants[..k]);
-    let mut i: usize = 0;
-    while i < a {
-        let from = i * s;
+    let mut row: usize = 0;
+    while row < a {
+        let from = row * s;
         let end = from + s;
         put_row(
             &mut column[from..end],
             folded,
             p,
             f,
-            i,
+            row,
             own,
             chosen,
             &denominators[..k],
             &determinants[..k],
         );
-        i += 1;
+        row += 1;
     }
 }
 

@@ -80,12 +80,12 @@ fn find_pivot(entries: [u8; SIDE], from: usize, rows: usize) -> Pivot
     requires { ⌜ rows ≤ side ⌝ }
     ensures { λ r. ⌜ ((s : List Line) (j : ℕ) → EntriesOf s j rows entries → r ≡ pivotFrom s j from rows) ⌝ }
 {
-    let mut i = from;
-    while i < rows {
-        if entries[i] != 0 {
-            return Pivot::At(i);
+    let mut line = from;
+    while line < rows {
+        if entries[line] != 0 {
+            return Pivot::At(line);
         }
-        i += 1;
+        line += 1;
     }
     Pivot::Missing
 }

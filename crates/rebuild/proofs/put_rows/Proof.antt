@@ -1,4 +1,4 @@
--- `rebuild::put_rows` meets its contract. The invariant: the rows before row i are written.
+-- `rebuild::put_rows` meets its contract. The invariant: the rows before the one reached are written.
 use mathlib.Core.Path.{_≡_, sym, ap, subst, _∙_}
 use mathlib.Core.List.{List, _++_}
 use Prim.Native.Nat.{ℕ, _+_, _-_, _*_, _≤_, zero-le}
@@ -110,13 +110,13 @@ module _ (c : tie.In-loop Inv-loop μ-loop) where
   abbrev p : Profile
   p = given .args .p
 
-  fits : c .before .loop .i * p .s + p .s ≤ p .a * p .s
-  fits = room (c .before .loop .i) (p .a) (p .s) (c .loop-test .taken)
+  fits : c .before .loop .row * p .s + p .s ≤ p .a * p .s
+  fits = room (c .before .loop .row) (p .a) (p .s) (c .loop-test .taken)
 
-  bound : c .before .loop .i * p .s + p .s ≤ 2048
+  bound : c .before .loop .row * p .s + p .s ≤ 2048
   bound = omega (arith, fits, column-bound p (given .pre .0 .0))
 
-  inside : c .before .loop .i * p .s + p .s ≤ length (c .before .loop .column)
+  inside : c .before .loop .row * p .s + p .s ≤ length (c .before .loop .column)
   inside = omega (arith, fits, c .before .loop .inv .1)
 
 mul-from : tie.Need-mul-from Inv-loop μ-loop
@@ -171,8 +171,8 @@ loop-again c =
     let a = given t .args in (
       omega (arith, t .loop-test .taken),
       search needs,
-      next-part (a .p .s) (rowOf (a .p) (a .f) (a .own .now) (a .chosen .now) (a .folded .now)) (l .i)
-          (row-length (a .p) (a .f) (a .own .now) (a .chosen .now) (a .folded .now) (l .i)) (l .column) _ _
+      next-part (a .p .s) (rowOf (a .p) (a .f) (a .own .now) (a .chosen .now) (a .folded .now)) (l .row)
+          (row-length (a .p) (a .f) (a .own .now) (a .chosen .now) (a .folded .now) (l .row)) (l .column) _ _
           (l .inv .2) (c .before .before .put-row .ensures),
     )
 
@@ -184,7 +184,7 @@ unfolding rowsOf
 returns c =
     let l = c .before .loop in
     let a = start (first (c .before .before .before)) .args in
-    let e : l .i ≡ a .p .a = omega (arith, c .loop-test .left, l .inv .0) in
+    let e : l .row ≡ a .p .a = omega (arith, c .loop-test .left, l .inv .0) in
     sym (take-all (a .p .a * a .p .s) (l .column) (omega (arith, l .inv .1)))
     ∙ subst (λ (i : ℕ). take (i * a .p .s) (l .column)
     ≡ parts (a .p .s) (rowOf (a .p) (a .f) (a .own .now) (a .chosen .now) (a .folded .now)) i) e (l .inv .2)

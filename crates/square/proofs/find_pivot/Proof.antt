@@ -28,12 +28,12 @@ array-read-if1 c = search needs
 returns : tie.Need-returns Inv-loop μ-loop
 returns c =
     let a = c .before .before in
-    let i = a .loop .i in
+    let i = a .loop .line in
     let k : i < a .before .args .rows = omega arith in
     λ s j h. sym (pivot-here s j i _ k (λ e. c .if1 .taken (h .held i k .value ∙ e))) ∙ a .loop .inv s j h
 
-add-i : tie.Need-add-i Inv-loop μ-loop
-add-i c = search needs
+add-line : tie.Need-add-line Inv-loop μ-loop
+add-line c = search needs
 
 loop-less : tie.Need-loop-less Inv-loop μ-loop
 loop-less c = search needs
@@ -41,16 +41,16 @@ loop-less c = search needs
 loop-again : tie.Need-loop-again Inv-loop μ-loop
 loop-again c =
     let a = c .before .before in
-    let i = a .loop .i in
+    let i = a .loop .line in
     let k : i < a .before .args .rows = omega arith in
     λ s j h. sym (pivot-next s j i _ k (sym (h .held i k .value) ∙ c .if1 .left)) ∙ a .loop .inv s j h
 
 returns-2 : tie.Need-returns-2 Inv-loop μ-loop
 returns-2 c =
     let a = c .before in
-    λ s j h. sym (pivot-none s j (a .loop .i) (a .before .args .rows) (omega arith)) ∙ a .loop .inv s j h
+    λ s j h. sym (pivot-none s j (a .loop .line) (a .before .args .rows) (omega arith)) ∙ a .loop .inv s j h
 
 pub find-pivot-spec : {M : Type 1} → statement M
 find-pivot-spec =
     tie.close
-    (tie.spec Inv-loop μ-loop loop-holds array-read-if1 returns add-i loop-less loop-again returns-2)
+    (tie.spec Inv-loop μ-loop loop-holds array-read-if1 returns add-line loop-less loop-again returns-2)
