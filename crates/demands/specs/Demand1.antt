@@ -2,8 +2,8 @@
 -- document 01 .., given exactly when its condition is the first that holds in the order they are tried .., and it
 -- changes no byte that was lent.'
 --
--- Demand1 : demand 1 for the six calls and the small program, for all numbers and bytes. Shown in proofs/Demand1.antt:
---           demand-1
+-- Demand1 : demand 1 for the six calls, for looking at a profile's numbers and for the small program, for all numbers
+--           and bytes. Shown in proofs/Demand1.antt: demand-1
 --
 -- What it says of any call is in Tables.antt and Profile.antt, each call's table in the file of that call. The small
 -- program answers by the table of a rebuild: Program.antt.
@@ -12,9 +12,11 @@
 -- is that its answer and what it leaves in the buffers lent for writing are its definition's: `encode` is encodeOf,
 -- `plan` planOf, `write_bundle` writeOf, `rebuild` rebuildOf, `read_back` readOf, `survey` surveyOf, `Profile::new`
 -- checkedOf, and the function exported for each call is the same with its answer as one number. What the small program
--- writes is programOf by the promise of `rebuild_answer::answer`; its `main`, which reads and writes, has none.
+-- writes is programOf by the promise of `rebuild_answer::answer`; its `main`, which reads and writes, has none. The two
+-- functions exported beside the calls, product and inverse of bytes, refuse nothing.
 --
--- 'every entry point answers': each function of the store is proved to end without a fault.
+-- 'every entry point answers, and takes nobody's word that the input was checked': each function of the store is proved
+-- to end without a fault, and no entry point has a `requires`.
 use mathlib.Core.List.{List}
 use Prim.Native.Nat.{ℕ}
 use Rattle.document.specs.declared.Numbers.{Numbers}

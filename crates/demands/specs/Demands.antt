@@ -1,14 +1,15 @@
--- What is claimed of the store: the owner's three demands, and what document 01 says of a survey. The record is the
--- claim, and the theorem `demands` in proofs/Demands.antt shows it.
+-- What is claimed of the store: the owner's three demands, and what document 01 says of a survey. The record claims it
+-- of definitions, and the theorem `demands` in proofs/Demands.antt shows it; that the code does what the definitions
+-- say is the contract of each entry point, which Demand1.antt names.
 --
 -- Demands : the demands
 --
--- How to read them. Demand1.antt, Demand2.antt, Demand3.antt and, at its end, Survey.antt have a record each: demand 1
--- with a statement for each call, the others for each sentence. What the statements say is in a file for each call:
--- Encoding.antt, Plan.antt, Bundle.antt, Rebuild.antt, Reading.antt, Survey.antt, and Program.antt for the small
--- program. Strips.antt has what a rebuild rests on, Message.antt the lines for a bundle to read, Tables.antt and
--- Profile.antt what all calls have in common. The words that they use are in document/specs and in the specs of the
--- crates below it.
+-- How to read them. Demand1.antt, Demand2.antt and Demand3.antt have a record each, and Survey.antt has one at its end:
+-- demand 1 with a statement for each call, the others with the sentences that they say. What the statements say is in a
+-- file for each call: Encoding.antt, Plan.antt, Bundle.antt, Rebuild.antt, Reading.antt, Survey.antt, and Program.antt
+-- for the small program. Strips.antt has what a rebuild rests on, Message.antt the lines for a bundle to read,
+-- Tables.antt and Profile.antt what all calls have in common. The words that they use are in document/specs and in the
+-- specs of the crates below it.
 --
 -- A call has two tables of refusals. The one to be believed is that of the sentences here: profileSentences, then
 -- encodeSentences, planSentences, writeSentences, rebuildSentences, readSentences or surveySentences. The other is the

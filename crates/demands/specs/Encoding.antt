@@ -8,7 +8,7 @@
 -- Demand2Encode         : encoding that is not refused writes it                                    demand-2-encode
 -- Shown in proofs/Encoding.antt, under the name beside each.
 --
--- In it b is a byte offset of a strip, i a row, j a node, j % A its local column l. The words it uses:
+-- In DocumentArray b is a byte offset of a strip, i a row, j a node, j % A its local column l. The words it uses:
 -- byteAt p x b q : byte b of the strip at the place q of the array or data x
 -- place j i      : the place of node j, row i
 -- partnerOf A q  : the partner of the place q

@@ -1,7 +1,7 @@
 -- Demand 1 for a call that is given a profile's numbers: the refusals 1, 2 and 3, and then those of the call.
 --
 -- profileSentences p : the lines for a profile's numbers
--- profileLines       : their numbers
+-- profileLines       : the numbers of these lines
 -- Demand1Profile p   : the outcome of looking at the numbers p alone. Shown in proofs/Profile.antt: demand-1-profile
 -- Demand1For p tests table lines before outcome : a call that is given the numbers p refuses by these lines, and then
 --                      by its own, for an accepted profile. Shown of every such call in proofs/Profile.antt: call-for
@@ -29,8 +29,8 @@ profileSentences p =
 abbrev pub profileLines : List (ℕ × ℕ)
 profileLines = (1, 0) ∷ (2, 0) ∷ (3, 0) ∷ []
 
--- `Profile::new`, with which every call begins: it refuses by these lines and is lent nothing; what it hands out is the
--- profile with these numbers, accepted.
+-- `Profile::new`, with which every call begins that is given a profile's numbers: it refuses by these lines and is lent
+-- nothing; what it hands out is the profile with these numbers, accepted.
 pub record Demand1Profile (p : Numbers) : Type 1 where
   pub refuses : Demand1Of {X = List ℕ} (profileTests p) (profileSentences p) profileLines []
       (checkedAnswer (checkedOf p), [])

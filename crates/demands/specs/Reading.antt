@@ -12,7 +12,8 @@
 -- Demand2Reading            : for all numbers, lists and bytes                                      demand-2-reading
 -- Shown in proofs/Reading.antt, under the name beside each.
 --
--- The words it uses, from Encoding.antt, document/specs/Encoding.antt and Reading.antt, ksets/specs/Sets.antt:
+-- The words it uses, from Encoding.antt, from document/specs (Encoding.antt and Reading.antt) and from
+-- ksets/specs/Sets.antt:
 -- DocumentArray p d x     : x is the array that document 01 defines for the data d
 -- Data p d                : d are data
 -- joinedColumns p nodes x : the columns of the array x at the named nodes, joined in list order

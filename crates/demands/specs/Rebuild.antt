@@ -13,7 +13,7 @@
 -- SameColumn                 : so do bundles cut from arrays alike at the planned places            same-column
 -- SameBundle                 : for one recording, such arrays give one bundle                       same-bundle
 -- SameAnswer                 : equal bundles, wanted numbers and lengths give the same answer       same-answer
--- CutPasses                  : a bundle cut for the wanted numbers is not refused                   cut-passes
+-- CutPasses                  : a bundle cut for what is wanted is not refused                      cut-passes
 -- CutColumn                  : the column rebuilt from a bundle cut from any stored array           cut-column
 -- CutRebuilds                : from an encoded array, the rebuild gives the lost column back        cut-rebuilds
 -- CutForWanted               : a bundle cut for another profile, node or recording is refused       cut-for-wanted
@@ -21,7 +21,7 @@
 -- Shown in proofs/Rebuild.antt, under the name beside each.
 --
 -- In all of them p are the wanted numbers, f is the wanted node, r the wanted recording, b a bundle, y what the buffer
--- lent for the column holds, x a stored array. What else a bundle may be cut for is written out: numbers, node,
+-- lent for the column holds, x an array. What else a bundle may be cut for is written out: numbers, node,
 -- recording. Where there are two of a kind they are numbered 1 and 2.
 --
 -- planned p f are the planned places, bundleStrip p b i is the strip i of the bundle b: document/specs/Plan.antt and
@@ -125,7 +125,8 @@ module _ (p : Numbers) (f : ℕ) where
   SameAnswer =
       (r : Recording) (b y₁ y₂ : List ℕ) → length y₁ ≡ length y₂ → rebuildOf p f r b y₁ .0 ≡ rebuildOf p f r b y₂ .0
 
-  -- A bundle cut for the wanted numbers from any stored array is not refused.
+  -- A bundle cut from any stored array for the wanted numbers, node and recording is not refused, where the column has
+  -- its AS bytes.
   abbrev pub CutPasses : Type 0
   CutPasses =
       (x : List ℕ) (r : Recording) (b y : List ℕ) → CutFrom p f x r b → length y ≡ p .a * p .s → NotRefused p f r b y
@@ -143,8 +144,8 @@ module _ (p : Numbers) (f : ℕ) where
       (x : List ℕ) (recording r : Recording) (b y : List ℕ) → CutFrom p f x recording b → EncodedArray wanted x
       → NotRefused p f r b y → rebuildOf p f r b y .1 ≡ columnIn wanted x f
 
-  -- A bundle cut for any numbers, node and recording, and not refused: they are the wanted ones. Refusal 7 sees to it:
-  -- fields 01 and 02 have them.
+  -- A bundle cut for any numbers, node and recording, and not refused: they are the wanted ones. Refusals 6 and 7
+  -- see to it: fields 01 and 02 have them.
   abbrev pub CutForWanted : Type 0
   CutForWanted =
       (numbers : Numbers) (node : ℕ) (x : List ℕ) (recording r : Recording) (b y : List ℕ)

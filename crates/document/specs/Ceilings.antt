@@ -1,6 +1,6 @@
--- What the ceilings of a profile come to, for lists and buffers that hold those of any accepted profile.
+-- How large the square, the plans and the bundles of an accepted profile can be.
 --
--- Ceilings : these. Shown in proofs/Ceilings.antt: ceilings
+-- Ceilings : none is larger than its ceiling. Shown in proofs/Ceilings.antt: ceilings
 use Prim.Native.Nat.{ℕ, _*_, _≤_, _<_}
 use lib.ListN.{length}
 use Rattle.square.specs.Steps.{side}

@@ -17,7 +17,7 @@
 -- planWith p f x      : planning into x with the profile p: the answer, and what x holds then
 -- planOf p f x        : the same for any numbers p
 --
--- For the theorems, which hold whatever the order within a step:
+-- For the theorems, which hold whatever the order within a step, and for what computes by them:
 -- Walk                : the nodes that each of the three steps goes over, in their order
 -- Complete n A f w    : each step of the walk w goes over each of its candidates once
 -- walkOf p f          : document 01's walk: each step by rising node
@@ -127,7 +127,7 @@ planWith p f x =
 unfoldable pub planOf : Numbers → ℕ → List ℕ → Answer × List ℕ
 planOf p f x = onAccepted p (λ r. (Refused r, x)) (λ p. planWith p (record { 0 = f }) x)
 
--- ---- for the theorems: the same steps over candidates in any order
+-- ---- for the theorems, and for what computes by them: the same steps over candidates in any order
 -- The candidates of the three steps.
 pub record Walk : Type 0 where
   pub own : List ℕ

@@ -20,10 +20,10 @@
 -- From `square`: eliminated rows columns s t is how the elimination of s beside t ends, with `Regular` and what became
 -- of t if each column has a pivot.
 --
--- To be believed is joinedColumns. coefficientAt, squareOf, eliminationOf, ambiguous, inverseOf and dataFrom only
--- compute: demand 2 (demands/specs/Reading.antt) says that the test of refusal 10 is true exactly where some two
--- different data give equal columns, and that the data read back are otherwise the only ones with these columns. What
--- the other tests come to is said line by line there too.
+-- To be believed is joinedColumns. All else only computes, from coefficientAt to dataFrom: demand 2
+-- (demands/specs/Reading.antt) says that the test of refusal 10 is true exactly where some two different data give
+-- equal columns, and that the data read back are otherwise the only ones with these columns. What the other tests come
+-- to is said line by line there too.
 use mathlib.Core.Bool.{Bool, true, false, _&&_, not}
 use mathlib.Core.List.{List, [], _∷_, _++_}
 use Prim.Native.Nat.{ℕ, zero, suc, _+_, _*_, _/_, _%_}
@@ -54,7 +54,7 @@ use Rattle.document.specs.Encoding.{columnIn, coupledAt, laidOut}
 infixl 70 _⊗_
 open Field bytes using (𝟘, mul as _⊗_)
 
--- 'node list not k strictly rising numbers below n'
+-- The test of 'k strictly rising numbers below n'.
 unfoldable pub listAccepted : ℕ → ℕ → ℕ → List ℕ → Bool
 listAccepted n b zero [] = true
 listAccepted n b zero (x ∷ xs) = false

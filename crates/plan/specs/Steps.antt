@@ -1,7 +1,7 @@
 -- What the functions of the plan leave.
 --
 -- inStep step A f j : the step goes over node j, where f is lost
--- placesAt A f j    : the places read at node j: row c, and the partner of that place where j is off the diagonal
+-- placesAt A f j    : the places read for node j: row c, and the partner of that place where j is off the diagonal
 -- placesOf A f js   : those of each of the nodes js
 use mathlib.Core.Bool.{Bool, cond}
 use mathlib.Core.List.{List, [], _∷_, _++_}

@@ -69,7 +69,7 @@ fn put_place(out: &mut [u8], at: usize, q: Place) -> usize
     at + 2
 }
 
-// Writes the places that are read at node j.
+// Writes the places that are read for node j.
 fn put_node(out: &mut [u8], at: usize, p: Profile, f: Node, j: usize) -> usize
     requires { ⌜ Accepted p × (j < p .n) × (at + length (planBytes (placesAt (p .a) f j)) ≤ length (now out)) ⌝ }
     ensures { λ r. ⌜ Wrote (now (out .entry)) at (planBytes (placesAt (p .a) f j)) r (now (out .exit)) ⌝ }
@@ -85,7 +85,7 @@ fn put_node(out: &mut [u8], at: usize, p: Profile, f: Node, j: usize) -> usize
     next
 }
 
-// Writes the places that are read at each of the nodes.
+// Writes the places that are read for each of the nodes.
 fn put_nodes(out: &mut [u8], p: Profile, f: Node, nodes: &[u8]) -> usize
     requires { ⌜ Accepted p × ((i : ℕ) → i < length (now nodes) → getD (now nodes) i 0 < p .n)
         × (length (planBytes (placesOf (p .a) f (now nodes))) ≤ length (now out)) ⌝ }

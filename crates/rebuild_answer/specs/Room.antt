@@ -1,8 +1,8 @@
 -- How much of its input the small program's answer turns on.
 --
 -- longestInput : the head and the longest bundle
--- LongerInput  : an input longer than that is answered as its first bytes are. Shown in proofs/Longer.antt:
---                longer-input
+-- LongerInput  : a longer input is answered as its first bytes are, if these are more than that. Shown in
+--                proofs/Longer.antt: longer-input
 use mathlib.Core.Path.{_≡_}
 use mathlib.Core.List.{List}
 use Prim.Native.Nat.{ℕ, _+_, _≤_, _<_}

@@ -133,8 +133,8 @@ fn put_answer(out: &mut [u8], input: &[u8]) -> usize
     }
 }
 
-// What the program writes to standard output for this standard input: so many bytes at the start of `output`. The bytes
-// past them stay.
+// Writes what the program writes to standard output for this standard input to the start of `output`, and returns the
+// number of its bytes. The bytes past them stay.
 pub fn answer(input: &[u8], output: &mut [u8; COLUMN]) -> usize
     ensures { λ r. ⌜ Wrote (now (output .entry)) 0 (programOf (now (input .entry))) r (now (output .exit)) ⌝ }
 {

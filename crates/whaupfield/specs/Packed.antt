@@ -16,8 +16,9 @@
 -- unpackedPosition w : WHAUPFIELD_POSITION
 -- unpackedLooked w   : WHAUPFIELD_LOOKED
 -- GivenBack          : they give number and value of every answer back. Shown in proofs/Values.antt: given-back
--- SurveyGivenBack s  : and those of the survey's answer s
--- SurveysGivenBack   : of every answer that a survey can give. Shown in proofs/Values.antt: surveys-given-back
+-- SurveyGivenBack s  : they give number, outcome, position and sets looked at of the survey's answer s back
+-- SurveysGivenBack   : so they do of every answer that a survey can give. Shown in proofs/Values.antt:
+--                      surveys-given-back
 use mathlib.Core.Path.{_≡_}
 use mathlib.Core.List.{List}
 use Prim.Native.Nat.{ℕ, _+_, _*_, _/_, _%_, _^_, _<_}
