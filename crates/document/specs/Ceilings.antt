@@ -1,7 +1,7 @@
 -- How large the square, the plans and the bundles of an accepted profile can be.
 --
 -- Ceilings : none is larger than its ceiling. Shown in proofs/Ceilings.antt: ceilings
-use Prim.Native.Nat.{ℕ, _*_, _≤_, _<_}
+use Prim.Native.Nat.{_*_, _≤_, _<_}
 use lib.ListN.{length}
 use Rattle.square.specs.Steps.{side}
 use Rattle.document.specs.declared.Profile.{Profile}

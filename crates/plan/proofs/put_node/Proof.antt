@@ -1,4 +1,4 @@
--- `plan::put_node` meets its contract: the places read at the node are its row c, and the partner where the test says
+-- `plan::put_node` meets its contract: the places read for the node are its row c, and the partner where the test says
 -- so.
 use mathlib.Core.Path.{_≡_, sym, ap, _∙_}
 use mathlib.Core.List.{List, [], _∷_}
