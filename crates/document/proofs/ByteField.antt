@@ -80,6 +80,12 @@ byte-one-one a b h k e = sym (number-byte a h) ∙ ap number e ∙ number-byte b
 pub byte-ne : (a : ℕ) → a < 256 → a ≢ 0 → byte a ≢ bytes .𝟘
 byte-ne a h n e = n (byte-one-one a 0 h (omega arith) (e ∙ sym byte-zero))
 
+-- a byte other than 0 has a number above 0
+pub number-above : (a : Byte) → a ≢ bytes .𝟘 → 0 < number a
+number-above a n =
+    let ne : number a ≢ 0 = λ e. n (sym (byte-number a) ∙ ap byte e ∙ byte-zero) in
+    omega arith
+
 -- different numbers below 256 are different bytes
 pub points-distinct : (n : ℕ) → n ≤ 256 → DistinctPoints bytes n byte
 points-distinct n h i j l b e = omega (arith, byte-one-one i j (omega arith) (omega arith) e)

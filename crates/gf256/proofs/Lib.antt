@@ -4,6 +4,7 @@ pub mod Product
 pub mod Byte
 pub mod Tables
 pub mod Powers
+pub mod Inverses
 pub mod Ring
 pub mod Lists
 pub mod Laws

@@ -58,10 +58,6 @@ pub inverse-lt : (a : ℕ) → inverse a < 256
 unfolding inverse squares
 inverse-lt a = P.mul-lt (a ⊗ a) (squares 6 (a ⊗ a))
 
-pub inverse-zero : inverse 0 ≡ 0
-unfolding inverse squares
-inverse-zero = ap (λ (x : ℕ). x ⊗ squares 6 x) (P.zero-mul 0) ∙ P.zero-mul (squares 6 0)
-
 module _ {a : ℕ} (p : 0 < a) (h : a < 256) where
   pub mul-inverse : a ⊗ inverse a ≡ 1
   unfolding inverse exponent
@@ -70,15 +66,8 @@ module _ {a : ℕ} (p : 0 < a) (h : a < 256) where
       ∙ ap (λ (x : ℕ). power (log a) ⊗ x) (squares-power 7 (log a)) ∙ sym (power-add (log a) (254 * log a))
       ∙ ap power (omega arith) ∙ power-multiple (log a)
 
-  pub inverse-above : 0 < inverse a
-  inverse-above = above (inverse a) mul-inverse
-    where
-      above : (b : ℕ) → a ⊗ b ≡ 1 → 0 < b
-      above zero e = let z : _≡_ {A = ℕ} 0 1 = sym (P.mul-zero a) ∙ e in omega arith
-      above (suc b) e = omega arith
-
   -- the one byte whose product with a is 1
-  inverse-unique : {b : ℕ} → b < 256 → a ⊗ b ≡ 1 → inverse a ≡ b
+  pub inverse-unique : {b : ℕ} → b < 256 → a ⊗ b ≡ 1 → inverse a ≡ b
   inverse-unique {b} k e =
       sym (P.mul-one (inverse a) (inverse-lt a)) ∙ ap (λ (x : ℕ). inverse a ⊗ x) (sym e)
       ∙ P.mul-left-comm (inverse a) a b ∙ ap (λ (x : ℕ). a ⊗ x) (P.mul-comm (inverse a) b)

@@ -5,7 +5,7 @@ pub use Rattle.gf256.proofs.Product.{mul-assoc, mul-comm, mul-left-comm
 pub use Rattle.gf256.proofs.Product.{mul-add, add-mul, mul-lt, low-left, low-right, double-two}
 pub use Rattle.gf256.proofs.Product.{double-add}
 pub use Rattle.gf256.proofs.Byte.{mul-bit, mul-turn}
-pub use Rattle.gf256.proofs.Powers.{inverse-lt, inverse-zero, inverse-above, mul-inverse}
+pub use Rattle.gf256.proofs.Powers.{inverse-lt, mul-inverse}
 
 pub ruleset sums = (add-assoc, add-comm, add-left-comm, add-zero, zero-add, add-self, add-self-left)
 

@@ -10,17 +10,20 @@
 -- log a               : the logarithm of a; 0 for 0
 -- tableOf f           : the table of 256 entries that holds f at each byte
 -- squares n a         : the product of a^2, a^4, a^8, .., n factors
--- inverse a           : the inverse of a; 0 for 0
+-- inverse a           : the inverse of a, which is not 0: the 254th power
+-- invertedOf a        : the inverse of a, or that a has none
 -- productOf xs        : the product of all entries of xs
 -- quotientsOf xs ys   : each entry of xs divided by the entry of ys at its place
 -- NoZero ys           : no entry of ys is 0
 use Prim.Native.Nat.{ℕ, zero, suc, _*_, _/_, _%_, _<_}
-use mathlib.Core.Bool.{true, false}
+use mathlib.Core.Bool.{true, false, cond}
 use mathlib.Core.List.{List, [], _∷_}
 use lib.Bits.{bitXor}
 use lib.Dec.{eqb}
 use lib.ListN.{length, getD}
 use Rattle.lists.specs.Listed.{listed}
+use Rattle.gf256.specs.declared.Inverted.{Inverted}
+use Rattle.gf256.specs.declared.Inverted.the-variants.{Byte, NoInverse}
 
 infixl 65 _⊕_
 infixl 70 _⊗_
@@ -73,10 +76,14 @@ unfoldable pub squares : ℕ → ℕ → ℕ
 squares zero a = 1
 squares (suc n) a = timesNext (squares n) (a ⊗ a)
 
--- 'Inverse of zero is given as 0; no other byte has inverse 0.' This is the 254th power, 254 being 2 + 4 + .. + 128.
--- The 255th power of every other byte is 1, so that the product with this is 1: InverseLaws in Laws.antt.
+-- The 254th power, 254 being 2 + 4 + .. + 128. The 255th power of every byte but 0 is 1, so that the product with this
+-- is 1: InverseLaws in Laws.antt. Nothing is said of it at 0, and whoever divides by a byte shows that it is not 0.
 unfoldable pub inverse : ℕ → ℕ
 inverse a = squares 7 a
+
+-- Document 02, K10: 'The inverse should say there is none for zero, and hand over the byte otherwise.'
+unfoldable pub invertedOf : ℕ → Inverted
+invertedOf a = cond (eqb a 0) NoInverse (Byte (inverse a))
 
 -- The product of a list, 1 for the empty one.
 unfoldable pub productOf : List ℕ → ℕ

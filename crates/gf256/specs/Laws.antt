@@ -1,11 +1,14 @@
--- What document 01 says of logarithms and inverses, as statements about the definitions of Field.antt.
+-- What document 01 says of logarithms, and document 02 of inverses (K10), as statements about the definitions of
+-- Field.antt.
 --
 -- LogarithmLaws : what the logarithms are      logarithm-laws
 -- InverseLaws   : what the inverses are        inverse-laws
 -- Shown in proofs/Laws.antt, under the name beside each.
 use mathlib.Core.Path.{_≡_}
+use mathlib.Core.Logic.{_↔_}
 use Prim.Native.Nat.{ℕ, _≤_, _<_}
-use Rattle.gf256.specs.Field.{_⊗_, power, log, inverse}
+use Rattle.gf256.specs.declared.Inverted.the-variants.{Byte, NoInverse}
+use Rattle.gf256.specs.Field.{_⊗_, power, log, inverse, invertedOf}
 
 pub record LogarithmLaws : Type 0 where
   -- 'logarithms lie in 0..254'
@@ -18,11 +21,10 @@ pub record LogarithmLaws : Type 0 where
   pub power-at : (a : ℕ) → 0 < a → a < 256 → power (log a) ≡ a
 
 pub record InverseLaws : Type 0 where
-  -- 'Inverse of zero is given as 0'
-  pub of-zero : inverse 0 ≡ 0
-  -- 'no other byte has inverse 0'
-  pub above : (a : ℕ) → 0 < a → a < 256 → 0 < inverse a
-  -- It is a byte.
-  pub small : (a : ℕ) → inverse a < 256
-  -- It is the inverse: the product of any byte but 0 and its inverse is 1.
-  pub product : (a : ℕ) → 0 < a → a < 256 → a ⊗ inverse a ≡ 1
+  -- K10: 'there is none for zero', and for zero alone
+  pub none : (a : ℕ) → (invertedOf a ≡ NoInverse) ↔ (a ≡ 0)
+  -- 'and hand over the byte otherwise': the one byte whose product with a is 1. So 'no other byte has inverse 0', as
+  -- document 01 says, and 0 has none because there is no such byte.
+  pub byte : (a b : ℕ) → a < 256 → (invertedOf a ≡ Byte b) ↔ ((b < 256) × (a ⊗ b ≡ 1))
+  -- What quotients are made with is that byte.
+  pub handed : (a : ℕ) → 0 < a → invertedOf a ≡ Byte (inverse a)

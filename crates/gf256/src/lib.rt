@@ -6,9 +6,15 @@ ghost use mathlib.Core.Path.{_≡_};
 ghost use Prim.Native.Nat.{_<_, _≤_};
 ghost use lib.ListN.{length};
 ghost use Rattle.gf256.specs.Field;
-ghost use Rattle.gf256.specs.Field.{_⊗_, double, power, tableOf, productOf, quotientsOf, NoZero};
+ghost use Rattle.gf256.specs.Field.{_⊗_, double, power, tableOf, invertedOf, productOf, quotientsOf, NoZero};
 
 mod table;
+
+// The inverse of a byte, or that it has none.
+pub enum Inverted {
+    Byte(u8),
+    NoInverse,
+}
 
 // The n-th power of 2: the powers repeat after 255.
 fn power_at(exp: &[u8; 256], n: usize) -> u8
@@ -69,15 +75,23 @@ pub fn mul(a: u8, b: u8) -> u8
     power_at(&table::powers(), n)
 }
 
-// The inverse; 0 for 0.
-pub fn inverse(a: u8) -> u8
+// The inverse of a byte that is not 0, which the caller shows.
+pub fn inverse_of(a: u8) -> u8
+    requires { ⌜ 0 < a ⌝ }
     ensures { λ r. ⌜ r ≡ Field.inverse a ⌝ }
 {
-    if a == 0 {
-        return 0;
-    }
     let n = 255 - log_at(&table::logs(), a);
     power_at(&table::powers(), n)
+}
+
+// The inverse of any byte: none for 0.
+pub fn inverse(a: u8) -> Inverted
+    ensures { λ r. ⌜ r ≡ invertedOf a ⌝ }
+{
+    if a == 0 {
+        return Inverted::NoInverse;
+    }
+    Inverted::Byte(inverse_of(a))
 }
 
 // The quotient, by the tables lent. The caller shows that the divisor is not 0.

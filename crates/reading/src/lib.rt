@@ -62,7 +62,7 @@ fn known_strip(out: &mut [u8], p: Profile, nodes: &[u8], positions: &[u8], colum
     }
     let row = q.row;
     let f = p.factor(row, r.row.0);
-    let d = gf256::inverse(coupling::determinant(p, row, r.row.0));
+    let d = gf256::inverse_of(coupling::determinant(p, row, r.row.0));
     let other = (at * p.a + r.row.0) * s;
     let own_end = own + s;
     let other_end = other + s;

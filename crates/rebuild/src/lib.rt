@@ -110,7 +110,7 @@ fn own_scale(p: Profile, f: Node, i: usize) -> u8
     ensures { λ r. ⌜ r ≡ number (ownScaleAt p f i) ⌝ }
 {
     let c = f.0 % p.a;
-    gf256::inverse(p.factor(Row(c), i))
+    gf256::inverse_of(p.factor(Row(c), i))
 }
 
 // By what row c is multiplied for row i of the lost column.

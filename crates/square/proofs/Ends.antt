@@ -72,9 +72,17 @@ module _ {rows columns r : ℕ} {a : Left} {t : List Line} {end : Eliminated} (w
       pub reached-below : p < 80
       reached-below = omega (arith, pivot .high)
 
+      -- the entry that was found is one to divide by
+      pub reached-pivot : (r < 80) × (p < 80) × (0 < getD (a .entries) p 0)
+      reached-pivot = (
+        omega (arith, w .small),
+        reached-below,
+        omega (arith, pivot .nonzero, column .held p (pivot .high) .value),
+      )
+
       -- b is the square with column r cleared by the multipliers c, u the right half after the same step
       pub reached-next : {c : List ℕ} {b : Left} {u : List Line}
-          → Multipliers (a .entries) r (getD (a .entries) p 0) c
+          → Multipliers (a .entries) r p c
           → Cleared (λ i. getD c i 0) r rows (lifted r p (a .lines)) b
           → u ≡ stepped (λ i. getD c i 0) r (lifted r p t) rows → Reached rows columns (r + 1) b u end
       reached-next {c} f k g =

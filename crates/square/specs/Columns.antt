@@ -4,8 +4,8 @@
 -- Gathered f j rows i e : e has room for rows entries, and holds those in column j of the first i of the lines f 0,
 --                         f 1, ..
 -- EntriesOf s j rows e  : e holds the entries of column j in the lines of s below rows
--- Multipliers e r v c   : c i is what line i is given of line r, so that the column with the entries e has 1 in line r,
---                         where the pivot is v, and 0 elsewhere
+-- Multipliers e r p c   : c i is what line i is given of line r, so that the column with the entries e has 1 in line r
+--                         and 0 elsewhere; the pivot is the entry of line p, which is not 0
 -- Cleared c r rows b z  : z is b after the step that adds c i times line r to each line i below rows, with the entries
 --                         of the column after r; of column 0 past the last that there is room for
 use mathlib.Core.Path.{_≡_}
@@ -31,8 +31,9 @@ pub record Gathered (f : ℕ → List ℕ) (j rows i : ℕ) (e : List ℕ) : Typ
 abbrev pub EntriesOf : List Line → ℕ → ℕ → List ℕ → Type 0
 EntriesOf s j rows e = Gathered (lineAt s) j rows rows e
 
-pub record Multipliers (e : List ℕ) (r v : ℕ) (c : List ℕ) : Type 0 where
-  pub at : (i : ℕ) → i < side → getD c i 0 ≡ cond (eqb i r) (1 ⊕ inverse v) (inverse v ⊗ getD e i 0)
+pub record Multipliers (e : List ℕ) (r p : ℕ) (c : List ℕ) : Type 0 where
+  pub at : (i : ℕ) → i < side
+      → getD c i 0 ≡ cond (eqb i r) (1 ⊕ inverse (getD e p 0)) (inverse (getD e p 0) ⊗ getD e i 0)
 
 pub record Cleared (c : ℕ → ℕ) (r rows : ℕ) (b : List Line) (z : Left) : Type 0 where
   pub lines : z .lines ≡ stepped c r b rows

@@ -91,12 +91,13 @@ fn find_pivot(entries: [u8; SIDE], from: usize, rows: usize) -> Pivot
 }
 
 // What each line is given of line r, so that the column has 1 there and 0 elsewhere: the entry times the inverse of the
-// pivot, and in line r itself what makes the pivot 1.
-fn multipliers(entries: [u8; SIDE], r: usize, pivot: u8) -> [u8; SIDE]
-    requires { ⌜ r < side ⌝ }
-    ensures { λ z. ⌜ Multipliers entries r pivot z ⌝ }
+// pivot, and in line r itself what makes the pivot 1. The pivot is the entry of line p, which line r has once p is added
+// to it; its own may have been 0.
+fn multipliers(entries: [u8; SIDE], r: usize, p: usize) -> [u8; SIDE]
+    requires { ⌜ (r < side) × (p < side) × (0 < getD entries p 0) ⌝ }
+    ensures { λ z. ⌜ Multipliers entries r p z ⌝ }
 {
-    let v = gf256::inverse(pivot);
+    let v = gf256::inverse_of(entries[p]);
     let mut z = [0u8; SIDE];
     strips::add_scaled(&mut z, 0, &entries, v);
     z[r] = 1 ^ v;
@@ -214,7 +215,7 @@ pub fn invert(s: [Line; SIDE], rows: usize, columns: usize) -> Eliminated
         let e = a.entries;
         match find_pivot(e, r, rows) {
             Pivot::At(p) => {
-                let c = multipliers(e, r, e[p]);
+                let c = multipliers(e, r, p);
                 let u = follow(t, r, p, c, rows);
                 t = u;
                 let b = clear(a, r, p, c, rows);
@@ -247,7 +248,7 @@ pub fn judge(s: [Line; SIDE], rows: usize, columns: usize) -> Verdict
         let e = a.entries;
         match find_pivot(e, r, rows) {
             Pivot::At(p) => {
-                let c = multipliers(e, r, e[p]);
+                let c = multipliers(e, r, p);
                 let b = clear(a, r, p, c, rows);
                 a = b;
             }

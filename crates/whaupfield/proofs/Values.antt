@@ -1,5 +1,5 @@
 -- The values of answers are small enough to be packed, and are given back from what was packed.
-use mathlib.Core.Path.{_≡_, ap}
+use mathlib.Core.Path.{_≡_, refl, ap}
 use Prim.Native.Nat.{ℕ, _^_, _≤_, _<_}
 use native.Mathlib.Omega.{arith}
 use lib.Dec.{lit<}
@@ -15,10 +15,12 @@ use Rattle.document.proofs.Values.{survey-counted}
 use Rattle.whaupfield.specs.Packed.{
   packed,
   packedSurvey,
+  packedInverse,
   SurveyFits,
   GivenBack,
   SurveyGivenBack,
   SurveysGivenBack,
+  InverseGivenBack,
 }
 
 -- the answer of a call, from what its contract says: no value is greater than the length of a bundle
@@ -54,6 +56,14 @@ survey-given-back s position =
     let number : answerNumber (surveyAnswer s) < 256 = number-small (surveyAnswer s) in
     let outcome : outcomeNumber s < 4 = outcome-small s in
     record { number = omega arith; outcome = omega arith; position = omega arith; looked = omega arith }
+
+pub inverse-given-back : InverseGivenBack
+unfolding packedInverse
+inverse-given-back = record {
+  byte = λ b. (omega arith, omega arith);
+  none = refl;
+  no-refusal = λ r e. omega (arith, number-bound r);
+}
 
 pub surveys-given-back : SurveysGivenBack
 surveys-given-back p start most x = survey-given-back _ (survey-fits p start most x .0)

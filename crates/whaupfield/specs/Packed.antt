@@ -6,6 +6,8 @@
 --                    number of sets looked at in 22 bits each
 -- packedSurvey s   : a survey's answer: the number in the low byte, its value above it; with a refusal the value is 0
 -- packedSurveyWith pair : a survey's outcome with its answer packed
+-- noInverse        : the number that says that a byte has no inverse: WHAUPFIELD_NO_INVERSE
+-- packedInverse i  : the inverse of a byte: 0 in the low byte and the inverse above it, or that number alone
 -- SurveyFits       : no survey's position or number of sets needs more than 22 bits. Shown in proofs/Values.antt:
 --                    survey-fits
 --
@@ -19,13 +21,19 @@
 -- SurveyGivenBack s  : they give number, outcome, position and sets looked at of the survey's answer s back
 -- SurveysGivenBack   : so they do of every answer that a survey can give. Shown in proofs/Values.antt:
 --                      surveys-given-back
+-- InverseGivenBack   : they give the inverse back, and that there is none. Shown in proofs/Values.antt:
+--                      inverse-given-back
 use mathlib.Core.Path.{_≡_}
+use mathlib.Core.Logic.{_≢_}
 use mathlib.Core.List.{List}
 use Prim.Native.Nat.{ℕ, _+_, _*_, _/_, _%_, _^_, _<_}
+use Rattle.gf256.specs.declared.Inverted.{Inverted}
+use Rattle.gf256.specs.declared.Inverted.the-variants.{Byte, NoInverse}
 use Rattle.document.specs.declared.Numbers.{Numbers}
+use Rattle.document.specs.declared.Refusal.{Refusal}
 use Rattle.document.specs.declared.Answer.{Answer}
 use Rattle.document.specs.declared.Surveyed.{Surveyed}
-use Rattle.document.specs.Refusals.{answerNumber, answerValue}
+use Rattle.document.specs.Refusals.{numberOf, answerNumber, answerValue}
 use Rattle.document.specs.Survey.{surveyOf, surveyAnswer, outcomeNumber, failingPosition, lookedIn}
 
 unfoldable pub packed : Answer → ℕ
@@ -45,6 +53,15 @@ packedSurvey s =
 
 abbrev pub packedSurveyWith : {X : Type 0} → Surveyed × X → ℕ × X
 packedSurveyWith (answer, x) = (packedSurvey answer, x)
+
+-- Document 02, K10: 'say there is none for zero'. This is not the answer of a call that is refused, so its number is
+-- none of the refusals'.
+abbrev pub noInverse : ℕ
+noInverse = 255
+
+unfoldable pub packedInverse : Inverted → ℕ
+packedInverse (Byte b) = 256 * b
+packedInverse NoInverse = noInverse
 
 abbrev pub SurveyFits : Type 0
 SurveyFits =
@@ -85,3 +102,8 @@ pub record SurveyGivenBack (s : Surveyed) : Type 0 where
 
 abbrev pub SurveysGivenBack : Type 0
 SurveysGivenBack = (p : Numbers) (start most : ℕ) (x : List ℕ) → SurveyGivenBack (surveyOf p start most x .0)
+
+pub record InverseGivenBack : Type 0 where
+  pub byte : (b : ℕ) → (unpackedNumber (packedInverse (Byte b)) ≡ 0) × (unpackedValue (packedInverse (Byte b)) ≡ b)
+  pub none : unpackedNumber (packedInverse NoInverse) ≡ noInverse
+  pub no-refusal : (r : Refusal) → numberOf r ≢ noInverse

@@ -1,8 +1,7 @@
 // The functions for a C host: plain numbers and byte slices over the entry points. include/whaupfield.h declares them.
 ghost use mathlib.Core.Path.{_≡_};
 ghost use Prim.Native.Nat.{_*_, _^_, _<_};
-ghost use Rattle.gf256.specs.Field;
-ghost use Rattle.gf256.specs.Field.{_⊗_};
+ghost use Rattle.gf256.specs.Field.{_⊗_, invertedOf};
 ghost use Rattle.document.specs.Refusals.{answerValue};
 ghost use Rattle.document.specs.Encoding.{encodeOf};
 ghost use Rattle.document.specs.Plan.{planOf};
@@ -11,10 +10,12 @@ ghost use Rattle.document.specs.Rebuild.{rebuildOf};
 ghost use Rattle.document.specs.Reading.{readOf};
 ghost use Rattle.document.specs.Survey.{surveyOf, failingPosition, lookedIn};
 ghost use Rattle.whaupfield.specs.Packed.{packed, packedWith, outcomePacked, packedSurvey, packedSurveyWith};
+ghost use Rattle.whaupfield.specs.Packed.{packedInverse};
 use document::Answer;
 use document::Numbers;
 use document::Recording;
 use document::Surveyed;
+use gf256::Inverted;
 
 // The answer's number in the low byte, its value above it.
 fn pack(answer: Answer) -> u64
@@ -164,9 +165,19 @@ pub extern "C" fn whaupfield_product(a: u8, b: u8) -> u8
     gf256::mul(a, b)
 }
 
-#[no_mangle]
-pub extern "C" fn whaupfield_inverse(a: u8) -> u8
-    ensures { λ r. ⌜ r ≡ Field.inverse a ⌝ }
+// The answer of an inverse: the byte is its value, with the number 0. That there is none is a number of its own.
+fn pack_inverse(inverse: Inverted) -> u64
+    ensures { λ r. ⌜ r ≡ packedInverse inverse ⌝ }
 {
-    gf256::inverse(a)
+    match inverse {
+        Inverted::Byte(b) => 256 * (b as u64),
+        Inverted::NoInverse => 255,
+    }
+}
+
+#[no_mangle]
+pub extern "C" fn whaupfield_inverse(a: u8) -> u64
+    ensures { λ r. ⌜ r ≡ packedInverse (invertedOf a) ⌝ }
+{
+    pack_inverse(gf256::inverse(a))
 }

@@ -2,6 +2,7 @@
 use mathlib.Core.Path.{_≡_, sym, ap, ap₂, subst, _∙_}
 use mathlib.Core.List.{List}
 use Prim.Native.Nat.{ℕ, _+_, _-_, _*_, _/_, _%_, _≤_, _<_}
+use native.Mathlib.Nat.{mod-lt}
 use native.Mathlib.Omega.{arith}
 use borrow.Author.Needs.{needs}
 use lib.Arith.{digits-lt}
@@ -17,10 +18,11 @@ use Rattle.document.specs.Places.{partnerOf, Within}
 use Rattle.document.specs.Profile.{Accepted}
 use Rattle.document.specs.ByteField.{bytes, number}
 use Rattle.document.specs.Encoding.{factorAt}
-use Rattle.document.proofs.Bounds.{room, square-bound, data-bound, partner-within}
+use Rattle.document.proofs.Bounds.{A>0, room, square-bound, data-bound, partner-within}
 use Rattle.document.proofs.Reading.{joined-within}
 use Rattle.lists.specs.Positions.{positionIn}
 use Rattle.coupling.specs.Pairs.{uncoupledStrip}
+use Rattle.coupling.proofs.Determinants.{determinant-above}
 use Rattle.half_pairs.specs.HalfPairs.{named, partnerAt}
 use Rattle.half_pairs.proofs.Named.{table-length, table-at}
 use Rattle.reading.specs.Steps.{knownStrip}
@@ -196,8 +198,16 @@ uncouple-requires c κs =
       ap length (strip-part (x w) (from r) s (other-inside r)) ∙ strip-length (x w) (from r) s ∙ sym out,
     )
 
+-- the determinant is not 0
+inverse-of-requires : tie.Need-inverse-of-requires
+inverse-of-requires c κs =
+    let w = placed (c .before .before) in
+    rw (c .determinant .ensures)
+    (determinant-above (p w) (acc w) _ _ (omega (arith, row w, mod-lt (z w) (A>0 (p w) (acc w))))
+    (omega (arith, column w, within (start w) .row)))
+
 -- the factors and the inverse of the determinant
-module _ (c : tie.After-inverse) where
+module _ (c : tie.After-inverse-of) where
   abbrev paired : tie.After-row
   paired = c .before .before .before
 
@@ -219,15 +229,15 @@ module _ (c : tie.After-inverse) where
   factor : c .before .before .factor .result ≡ number (factorAt (p w) i m)
   factor = c .before .before .factor .ensures ∙ ap₂ (λ (i l : ℕ). number (factorAt (p w) i l)) (row w) (column w)
 
-  divisor : c .inverse .result ≡ inverse (number (pair bytes (factorAt (p w)) i m))
+  divisor : c .inverse-of .result ≡ inverse (number (pair bytes (factorAt (p w)) i m))
   divisor =
-      c .inverse .ensures
+      c .inverse-of .ensures
       ∙ ap inverse
       (c .before .determinant .ensures
       ∙ ap₂ (λ (i l : ℕ). number (pair bytes (factorAt (p w)) i l)) (row w) (column w))
 
   -- what `uncouple` leaves of the strips that were lent
-  uncoupled : uncoupledStrip (c .before .before .factor .result) (c .inverse .result)
+  uncoupled : uncoupledStrip (c .before .before .factor .result) (c .inverse-of .result)
       (take (own + S - own) (drop own (x w))) (take (from paired + S - from paired) (drop (from paired) (x w)))
       ≡ knownStrip (p w) (nodes w) (x w) (z w)
   uncoupled =
@@ -255,7 +265,7 @@ known-strip-spec =
     returns
     (λ c κs. search needs)
     (λ c κs. search needs)
-    (λ c κs. search needs)
+    inverse-of-requires
     mul-other
     add-other
     mul-other-2

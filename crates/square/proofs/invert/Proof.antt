@@ -2,7 +2,8 @@
 -- reached, ends as the whole one does.
 use Prim.Native.Nat.{_-_, _<_}
 use Rattle.square.specs.Elimination.{eliminated}
-use Rattle.square.proofs.Ends.{Reached, reached-none, reached-all, reached-stuck, reached-below, reached-next}
+use Rattle.square.proofs.Ends.{Reached, reached-none, reached-all, reached-stuck}
+use Rattle.square.proofs.Ends.{reached-below, reached-pivot, reached-next}
 use borrow.Author.Needs.{needs}
 use Rattle.square.proofs.invert.Statement.{statement}
 use Rattle.square.proofs.invert.Tie as tie
@@ -21,6 +22,13 @@ below c =
     let f = c .before .before in
     let i = f .before .before in
     reached-below (i .before .loop .inv) (i .loop-test .taken) (f .find-pivot .ensures) (c .p .given .1)
+
+multipliers-requires : tie.Need-multipliers-requires Inv-loop μ-loop
+multipliers-requires c κs =
+    let p = c .before in
+    let f = p .before .before in
+    let i = f .before .before in
+    reached-pivot (i .before .loop .inv) (i .loop-test .taken) (f .find-pivot .ensures) (p .p .given .1)
 
 returns : tie.Need-returns Inv-loop μ-loop
 returns c =
@@ -52,8 +60,7 @@ invert-spec =
     loop-holds
     (λ c κs. search needs)
     (λ c. search needs)
-    (λ c. below (c .before))
-    (λ c κs. search needs)
+    multipliers-requires
     (λ c κs. let h = below (c .before .before) in search needs)
     (λ c κs. let h = below (c .before .before .before) in search needs)
     (λ c. search needs)

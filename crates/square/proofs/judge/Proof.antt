@@ -7,7 +7,8 @@ use Rattle.square.specs.declared.Line.{Line}
 use Rattle.square.specs.declared.Eliminated.{Eliminated}
 use Rattle.square.specs.Steps.{unitSquare}
 use Rattle.square.specs.Elimination.{eliminated}
-use Rattle.square.proofs.Ends.{Reached, reached-none, reached-all, reached-stuck, reached-below, reached-next}
+use Rattle.square.proofs.Ends.{Reached, reached-none, reached-all, reached-stuck}
+use Rattle.square.proofs.Ends.{reached-below, reached-pivot, reached-next}
 use borrow.Author.Needs.{needs}
 use Rattle.square.proofs.judge.Statement.{statement}
 use Rattle.square.proofs.judge.Tie as tie
@@ -27,6 +28,13 @@ below c =
     let f = c .before .before in
     let i = f .before .before in
     reached-below (i .before .loop .inv .1) (i .loop-test .taken) (f .find-pivot .ensures) (c .p .given .1)
+
+multipliers-requires : tie.Need-multipliers-requires Inv-loop μ-loop
+multipliers-requires c κs =
+    let p = c .before in
+    let f = p .before .before in
+    let i = f .before .before in
+    reached-pivot (i .before .loop .inv .1) (i .loop-test .taken) (f .find-pivot .ensures) (p .p .given .1)
 
 returns : tie.Need-returns Inv-loop μ-loop
 returns c =
@@ -59,8 +67,7 @@ judge-spec =
     loop-holds
     (λ c κs. search needs)
     (λ c. search needs)
-    (λ c. below (c .before))
-    (λ c κs. search needs)
+    multipliers-requires
     (λ c κs. let h = below (c .before .before) in search needs)
     (λ c. search needs)
     returns

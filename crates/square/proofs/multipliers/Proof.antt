@@ -16,21 +16,6 @@ use borrow.Author.Needs.{needs}
 use Rattle.square.proofs.multipliers.Statement.{statement}
 use Rattle.square.proofs.multipliers.Tie as tie
 
-inverse-requires : tie.Need-inverse-requires
-inverse-requires c κs = search needs
-
-slice-aggregate-add-scaled : tie.Need-slice-aggregate-add-scaled
-slice-aggregate-add-scaled c = search needs
-
-slice-aggregate-add-scaled-2 : tie.Need-slice-aggregate-add-scaled-2
-slice-aggregate-add-scaled-2 c = search needs
-
-add-scaled-requires : tie.Need-add-scaled-requires
-add-scaled-requires c κs = search needs
-
-array-write-z : tie.Need-array-write-z
-array-write-z c = search needs
-
 -- What the array holds: v times the entries, and 1 ⊕ v at r, where v is the inverse of the pivot.
 multiplier-at : (es : List ℕ) (r v pivot m : ℕ) → r < m → v ≡ inverse pivot → (i : ℕ) → i < m
     → getD (set (addedScaled v 0 es (replicate m 0)) r (1 ⊕ v)) i 0
@@ -51,17 +36,18 @@ returns c =
     let g = n .before .args in
     record {
       at = λ i l.
-          ap (λ (x : List ℕ). getD (set x (g .r) (1 ⊕ n .inverse .result)) i 0) (a .add-scaled .ensures)
-          ∙ multiplier-at _ (g .r) (n .inverse .result) (g .pivot) 80 (omega arith) (n .inverse .ensures) i l;
+          ap (λ (x : List ℕ). getD (set x (g .r) (1 ⊕ n .inverse-of .result)) i 0) (a .add-scaled .ensures)
+          ∙ multiplier-at _ (g .r) (n .inverse-of .result) _ 80 (omega arith) (n .inverse-of .ensures) i l;
     }
 
 pub multipliers-spec : {M : Type 1} → statement M
 multipliers-spec =
     tie.close
     (tie.spec
-    inverse-requires
-    slice-aggregate-add-scaled
-    slice-aggregate-add-scaled-2
-    add-scaled-requires
-    array-write-z
+    (λ c. search needs)
+    (λ c κs. search needs)
+    (λ c. search needs)
+    (λ c. search needs)
+    (λ c κs. search needs)
+    (λ c. search needs)
     returns)
