@@ -14,7 +14,7 @@ uint64_t unproved_rebuild(size_t, size_t, size_t, size_t, size_t, size_t, uint32
 uint64_t unproved_read_back(size_t, size_t, size_t, size_t, size_t, slice *, slice *, slice *);
 uint64_t unproved_survey(size_t, size_t, size_t, size_t, size_t, size_t, size_t, slice *);
 uint8_t unproved_product(uint8_t, uint8_t);
-uint8_t unproved_inverse(uint8_t);
+uint64_t unproved_inverse(uint8_t);
 
 uint64_t whaupfield_encode(size_t n, size_t k, size_t a, size_t t, size_t s,
                            const uint8_t *data, size_t data_length,
@@ -68,7 +68,7 @@ uint8_t whaupfield_product(uint8_t a, uint8_t b)
     return unproved_product(a, b);
 }
 
-uint8_t whaupfield_inverse(uint8_t a)
+uint64_t whaupfield_inverse(uint8_t a)
 {
     return unproved_inverse(a);
 }

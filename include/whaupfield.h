@@ -1,4 +1,4 @@
-/* The array store's functions for a C host. Version 0.1.0, before the first release: names and parameters may change.
+/* The array store's functions for a C host. Version 0.2.0, before the first release: names and parameters may change.
  *
  * Every function takes plain numbers and buffers that the caller owns. A buffer is a pointer and, after it, its length
  * in bytes: the pointer is not NULL, also where the length is 0, and points to that many bytes. A const buffer is lent
@@ -39,9 +39,9 @@
 #include <stdint.h>
 
 #define WHAUPFIELD_VERSION_MAJOR 0
-#define WHAUPFIELD_VERSION_MINOR 1
+#define WHAUPFIELD_VERSION_MINOR 2
 #define WHAUPFIELD_VERSION_PATCH 0
-#define WHAUPFIELD_VERSION "0.1.0"
+#define WHAUPFIELD_VERSION "0.2.0"
 
 #define WHAUPFIELD_NUMBER(answer) ((unsigned)((uint64_t)(answer) & 0xFF))
 #define WHAUPFIELD_VALUE(answer) ((uint64_t)(answer) >> 8)
@@ -67,6 +67,9 @@ enum whaupfield_refusal {
     WHAUPFIELD_STALE = 9,
     WHAUPFIELD_AMBIGUOUS = 10
 };
+
+/* The number of whaupfield_inverse for 0: that there is no inverse, which is not a refusal. */
+#define WHAUPFIELD_NO_INVERSE 255
 
 /* The name that a number of an answer has above. */
 static inline const char *whaupfield_refusal_name(unsigned number)
@@ -228,8 +231,10 @@ uint64_t whaupfield_survey(size_t n, size_t k, size_t a, size_t t, size_t s, siz
 /* The product of two bytes in the field of 0x11D. */
 uint8_t whaupfield_product(uint8_t a, uint8_t b);
 
-/* The inverse of a byte; 0 for 0. */
-uint8_t whaupfield_inverse(uint8_t a);
+/* The inverse of a byte, whose product with it is 1. Value: the inverse, which is never 0. Zero has none, and for it the
+ * number is WHAUPFIELD_NO_INVERSE: look at the number first. Up to version 0.1.0 the byte itself was returned, and 0 for
+ * 0: a host that still keeps the answer in a uint8_t has 0 for every byte but 0, and -Wconversion tells. */
+uint64_t whaupfield_inverse(uint8_t a);
 
 #ifdef __cplusplus
 }

@@ -185,7 +185,7 @@ pub fn lagrange(points: &[u8], at: u8) -> Vec<u8> {
                 below = product(below, sum(points[own], point));
             }
         }
-        product(above, inverse(below))
+        product(above, inverse(below).expect("the points are different"))
     };
     (0..points.len()).map(weight).collect()
 }
@@ -240,7 +240,7 @@ pub fn couple(profile: &Profile, base: &[u8]) -> Vec<u8> {
 /// row < column and v its partner, the strips are u + v and v + t·u, so that their sum is (1 + t)·u.
 pub fn decouple(profile: &Profile, stored: &[u8]) -> Vec<u8> {
     let mut base = stored.to_vec();
-    let scale = inverse(sum(1, profile.t as u8));
+    let scale = inverse(sum(1, profile.t as u8)).expect("t is not 1");
     for place in profile.places().into_iter().filter(|&place| place.row < profile.local_column(place)) {
         let (own, other) = (profile.strip_start(place), profile.strip_start(profile.partner(place)));
         for offset in 0..profile.s {

@@ -22,7 +22,7 @@ pub fn product(a: u8, b: u8) -> u8 {
     unreduced as u8
 }
 
-/// The byte whose product with `a` is 1; 0 for 0.
-pub fn inverse(a: u8) -> u8 {
-    (1..=255).find(|&b| product(a, b) == 1).unwrap_or(0)
+/// The byte whose product with `a` is 1, if there is one.
+pub fn inverse(a: u8) -> Option<u8> {
+    (0..=255).find(|&b| product(a, b) == 1)
 }

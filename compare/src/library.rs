@@ -78,7 +78,7 @@ extern "C" {
         set_len: usize,
     ) -> u64;
     fn whaupfield_product(a: u8, b: u8) -> u8;
-    fn whaupfield_inverse(a: u8) -> u8;
+    fn whaupfield_inverse(a: u8) -> u64;
 }
 
 /// What a call answers: 0 or the refusal's number in the low byte, the value above it.
@@ -250,6 +250,6 @@ pub fn product(a: u8, b: u8) -> u8 {
     unsafe { whaupfield_product(a, b) }
 }
 
-pub fn inverse(a: u8) -> u8 {
-    unsafe { whaupfield_inverse(a) }
+pub fn inverse(a: u8) -> Answer {
+    Answer::from_word(unsafe { whaupfield_inverse(a) })
 }

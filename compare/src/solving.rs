@@ -64,7 +64,7 @@ pub fn eliminate(equations: &mut [Vec<u8>], symbols: usize) -> Vec<usize> {
             continue;
         };
         equations.swap(next, found);
-        let scale = inverse(equations[next][symbol]);
+        let scale = inverse(equations[next][symbol]).expect("the multiple that was found is not 0");
         let pivot: Vec<u8> = equations[next].iter().map(|&byte| product(scale, byte)).collect();
         for equation in equations.iter_mut().filter(|equation| equation[symbol] != 0) {
             let multiple = equation[symbol];

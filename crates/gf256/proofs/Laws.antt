@@ -49,8 +49,11 @@ byte-product (suc a) b h e =
 pub inverse-laws : InverseLaws
 inverse-laws = record {
   none = λ a. (none-zero a, inverted-zero);
-  byte = λ a b h. (byte-product a b h, λ (k, e).
-      let p : 0 < a = factor-above a b e in
-      inverted-above p ∙ ap Byte (inverse-unique p h k e));
+  byte = λ a b h. (
+    byte-product a b h,
+    λ (k, e).
+        let p : 0 < a = factor-above a b e in
+        inverted-above p ∙ ap Byte (inverse-unique p h k e),
+  );
   handed = λ a p. inverted-above p;
 }

@@ -2,6 +2,7 @@
 --
 -- Case                : what a definition gives, and what document 01 says it gives
 -- profile t           : the numbers (4,2,2), S = 1, with the coupling constant t
+-- inverseBytes i      : an inverse as a list of one byte, or of none
 -- outcome o           : an answer and a lent buffer as one list: number, value, bytes
 -- outerColumns o      : the same with the columns of nodes 0 and 3 alone
 -- bundle f fields     : a bundle for the lost node f, scenario 7, with these fields 03
@@ -20,7 +21,9 @@ use lib.ListN.{take, drop, replicate}
 use Rattle.lists.specs.Listed.{listed, patched, rising, all}
 use Rattle.lists.specs.Put.{slice, same}
 use Rattle.fields.specs.Fields.{twoBytes, fourBytes, opening}
-use Rattle.gf256.specs.Field.{_⊕_, _⊗_, double, bitProduct, squares, inverse}
+use Rattle.gf256.specs.declared.Inverted.{Inverted}
+use Rattle.gf256.specs.declared.Inverted.the-variants.{Byte, NoInverse}
+use Rattle.gf256.specs.Field.{_⊕_, _⊗_, double, bitProduct, squares, inverse, invertedOf}
 use Rattle.algebra.specs.Sum.{sum}
 use Rattle.algebra.specs.Weight.{weight}
 use Rattle.strips.specs.Strips.{addedScaled}
@@ -113,6 +116,11 @@ abbrev joined : List (List ℕ) → List ℕ
 joined [] = []
 joined (x ∷ xs) = x ++ joined xs
 
+-- An inverse as a list: empty if there is none.
+abbrev pub inverseBytes : Inverted → List ℕ
+inverseBytes (Byte b) = b ∷ []
+inverseBytes NoInverse = []
+
 -- An answer and a lent buffer, written as one list: number, value, bytes.
 abbrev pub outcome : Answer × List ℕ → List ℕ
 outcome (answer, x) = answerNumber answer ∷ answerValue answer ∷ x
@@ -149,7 +157,7 @@ surveyed t start B =
 unfoldable pub marked : List Case
 marked =
     record { gives = 128 ⊗ 128 ∷ []; says = 19 ∷ [] }
-    ∷ record { gives = inverse 2 ∷ []; says = 142 ∷ [] }
+    ∷ record { gives = inverseBytes (invertedOf 2); says = 142 ∷ [] }
     ∷ record { gives = 3 ⊗ 3 ∷ []; says = 5 ∷ [] }
     ∷ record {
       gives = outcome (encodeOf (profile 2) (0x01 ∷ 0x00 ∷ 0x02 ∷ 0x04 ∷ []) (lent 8));
@@ -190,7 +198,7 @@ marked =
 pub shown : map (λ c. c .gives) marked ≡ map (λ c. c .says) marked
 unfolding marked lent encodeOf encodeWith encodeTests onAccepted profileTests shapeAccepted constantAccepted
     stripAccepted tried answerNumber answerValue encoded laidOut coupledAt constantOf baseAt byteAt start listed sum
-    weight byte number bytes _⊕_ _⊗_ double bitProduct squares inverse ℕ-discrete decLt planOf planWith planTests
+    weight byte number bytes _⊕_ _⊗_ double bitProduct squares inverse invertedOf ℕ-discrete decLt planOf planWith planTests
     planned pairsAt planBytes isOwn isDiagonal isOffDiagonal rising rebuildOf rebuildWith rebuildTests bundleTests
     messageTests opened formed headed placed fresh placeIn recordingIn stripFieldStart plannedAt slice same all
     opening twoBytes fourBytes profileContent lostContent recordingBytes rebuiltOf rebuiltOver givenAt positionOf

@@ -1,10 +1,11 @@
-// Runs document 01's samples and edges, and prints what each gives. The file `stdout` says what document 01 says; the
-// marked cases are shown in specs/Marked.antt besides.
+// Runs the documents' samples and edges, and prints what each gives. The file `stdout` says what the documents say;
+// document 01's marked cases are shown in specs/Marked.antt besides.
 ghost use Prim.Native.Nat.{_≤_, _<_};
 use document::Answer;
 use document::Numbers;
 use document::Recording;
 use document::Surveyed;
+use gf256::Inverted;
 use libc::STDOUT_FILENO;
 
 fn print(text: &[u8]) {
@@ -51,6 +52,14 @@ fn print_places(places: &[u8]) {
 fn print_number(n: u8) {
     print(b" ");
     io::print_decimal(STDOUT_FILENO, n as u64);
+}
+
+// The inverse of a byte, or that it has none.
+fn print_inverse(a: u8) {
+    match gf256::inverse(a) {
+        Inverted::Byte(b) => print_number(b),
+        Inverted::NoInverse => print(b" none"),
+    }
 }
 
 // The numbers of a profile, in document 01's order.
@@ -235,12 +244,19 @@ fn print_edge(name: &[u8], p: Numbers, size: usize, room: usize)
     print(b"\n");
 }
 
+// Document 02's inverse of 0.
+fn print_inverse_of_zero() {
+    print(b"inverse of 0");
+    print_inverse(0);
+    print(b"\n");
+}
+
 // The marked samples.
 fn print_samples() {
     print(b"M1");
     print_number(gf256::mul(128, 128));
     print(b"\nM2");
-    print_number(gf256::inverse(2));
+    print_inverse(2);
     print(b"\nM3");
     print_number(gf256::mul(3, 3));
     print(b"\nM4");
@@ -284,6 +300,7 @@ fn print_prices() {
 fn main() {
     print_samples();
     print_surveys();
+    print_inverse_of_zero();
     print_bundle();
     print_edges();
     print_prices();
