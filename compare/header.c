@@ -1,6 +1,6 @@
 /* Compares what the header says with what the calls answer, through the header as a host uses it: lengths and ceilings
- * over every accepted (n, k, A), the names of the refusals, the inverses, the version. C99 that is C++ as well: compiled
- * as both. */
+ * over every accepted (n, k, A), the names of the refusals, the inverses, the version. C99 that is C++ as well:
+ * compiled as both. */
 #include <stdarg.h>
 #include <stdio.h>
 #include <stdlib.h>
@@ -372,16 +372,16 @@ static void compare_parts(void)
         disagree("plan n=4 k=2 A=2 t=2 S=1 lost=0: the value is %llu, expected 4", (unsigned long long)value);
 }
 
-/* The inverse of each byte: the one byte whose product with it is 1, and none for 0. That there is none is no refusal. */
+/* The inverse of a byte: the byte whose product with it is 1; none for 0, which is not a refusal. */
 static void compare_inverse(unsigned a)
 {
     uint64_t answer = whaupfield_inverse((uint8_t)a), value = WHAUPFIELD_VALUE(answer);
     unsigned number = WHAUPFIELD_NUMBER(answer), due = a == 0 ? WHAUPFIELD_NO_INVERSE : WHAUPFIELD_OK;
 
     cases++;
-    if (number != due || value > 255 || whaupfield_product((uint8_t)a, (uint8_t)value) != (a != 0))
-        disagree("inverse of %u: %u with %llu, expected %u%s", a, number, (unsigned long long)value, due,
-                 a == 0 ? "" : " with the byte whose product with it is 1");
+    if (number != due || value > 255 || (a == 0 ? value : whaupfield_product((uint8_t)a, (uint8_t)value)) != (a != 0))
+        disagree("inverse of %u: %u with %llu, expected %u with %s", a, number, (unsigned long long)value, due,
+                 a == 0 ? "0" : "the byte whose product with it is 1");
 }
 
 static void compare_inverses(void)

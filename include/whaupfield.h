@@ -1,4 +1,5 @@
-/* The array store's functions for a C host. Version 0.2.0, before the first release: names and parameters may change.
+/* The array store's functions for a C host. Version 0.2.0, before the first release: names, parameters and answers may
+ * change, and docs/changes has a page for each request that changed some.
  *
  * Every function takes plain numbers and buffers that the caller owns. A buffer is a pointer and, after it, its length
  * in bytes: the pointer is not NULL, also where the length is 0, and points to that many bytes. A const buffer is lent
@@ -17,7 +18,7 @@
  * is many arrays, and nothing in a bundle tells two arrays of one recording, or two runs of one scenario, apart: the
  * host keeps them apart.
  *
- * Answers, the same for every call: WHAUPFIELD_NUMBER is 0 on success, otherwise the number of the refusal;
+ * Answers, the same for every call that takes a profile: WHAUPFIELD_NUMBER is 0 on success, otherwise the number of the refusal;
  * WHAUPFIELD_VALUE is what comes with it. On success each call below says what that is. With WHAUPFIELD_MISPLACED and
  * WHAUPFIELD_STALE it is the index of the first such strip, from 0 in plan order, with any other refusal 0. The lowest
  * number that applies is the answer: a misplaced strip goes before a stale one, wherever they stand. docs/OPERATOR.md
@@ -71,7 +72,7 @@ enum whaupfield_refusal {
 /* The number of whaupfield_inverse for 0: that there is no inverse, which is not a refusal. */
 #define WHAUPFIELD_NO_INVERSE 255
 
-/* The name that a number of an answer has above. */
+/* The name of a refusal, or of WHAUPFIELD_OK. */
 static inline const char *whaupfield_refusal_name(unsigned number)
 {
     switch (number) {
@@ -231,9 +232,11 @@ uint64_t whaupfield_survey(size_t n, size_t k, size_t a, size_t t, size_t s, siz
 /* The product of two bytes in the field of 0x11D. */
 uint8_t whaupfield_product(uint8_t a, uint8_t b);
 
-/* The inverse of a byte, whose product with it is 1. Value: the inverse, which is never 0. Zero has none, and for it the
- * number is WHAUPFIELD_NO_INVERSE: look at the number first. Up to version 0.1.0 the byte itself was returned, and 0 for
- * 0: a host that still keeps the answer in a uint8_t has 0 for every byte but 0, and -Wconversion tells. */
+/* The inverse of a byte, whose product with it is 1. On success the number is WHAUPFIELD_OK and the value the inverse,
+ * which is never 0. Zero has no inverse: the number is WHAUPFIELD_NO_INVERSE and the value 0, so look at the number
+ * first. Up to version 0.1.0 the inverse was returned as a uint8_t, and 0 for 0. A host that still keeps it in one gets 0
+ * for every byte but 0, and 255 for 0; -Wconversion warns of that, but not of a cast, of == 0 or of a 64-bit variable:
+ * look for this name in your sources. */
 uint64_t whaupfield_inverse(uint8_t a);
 
 #ifdef __cplusplus

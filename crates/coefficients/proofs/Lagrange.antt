@@ -13,7 +13,7 @@ use Rattle.algebra.specs.Weight.{weight, product, productBut}
 use Rattle.algebra.proofs.Field.{add-ne-zero}
 use Rattle.algebra.proofs.Polynomial.{apart}
 use Rattle.document.specs.ByteField.{bytes, Byte, byte, number}
-use Rattle.document.proofs.ByteField.{number-zero, number-byte, byte-number, number-add, number-mul, number-inv}
+use Rattle.document.proofs.ByteField.{number-byte, number-above, number-add, number-mul, number-inv}
 use Rattle.coefficients.specs.Weights.{Different, Outside, points, weightsOf}
 use Rattle.coefficients.specs.Weights.{differencesOf, denominatorOf, denominatorsOf, Divisors, weightsFrom}
 use Rattle.algebra.proofs.Weight.{product-ne-zero, weight-quotient}
@@ -37,14 +37,6 @@ differences-length nodes x = listed-length (length nodes) _
 pub denominators-length : (nodes : List ℕ) → length (denominatorsOf nodes) ≡ length nodes
 unfolding denominatorsOf
 denominators-length nodes = listed-length (length nodes) (denominatorOf nodes)
-
--- A byte that is not 0 has a number above 0.
-number-above : (b : Byte) → b ≢ bytes .𝟘 → 0 < number b
-number-above b n =
-    above (number b) (λ e. n (sym (byte-number b) ∙ ap byte (e ∙ sym number-zero) ∙ byte-number (bytes .𝟘)))
-  where
-    above : (a : ℕ) → (a ≡ 0 → ⊥) → 0 < a
-    above a d = omega arith
 
 -- A list of bytes that are not 0.
 pub no-zero : (m : ℕ) (f : ℕ → Byte) → ((i : ℕ) → i < m → f i ≢ bytes .𝟘) → NoZero (listed m (λ i. number (f i)))

@@ -38,5 +38,6 @@ module _ (p : Profile) where
     determinant-above = number-above _ (pair-ne bytes (constantOf p) (p .a) (constant-ne-one p acc) i l row column)
 
     -- no constant is 0
-    pub factor-above : i ≢ l → 0 < number (factorAt p i l)
-    factor-above d = number-above _ (factor-ne bytes (constantOf p) (p .a) (constant-ne-zero p acc) i l row column d)
+    pub off-diagonal-above : i ≢ l → 0 < number (factorAt p i l)
+    off-diagonal-above d =
+        number-above _ (factor-ne bytes (constantOf p) (p .a) (constant-ne-zero p acc) i l row column d)

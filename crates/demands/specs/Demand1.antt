@@ -13,7 +13,8 @@
 -- `plan` planOf, `write_bundle` writeOf, `rebuild` rebuildOf, `read_back` readOf, `survey` surveyOf, `Profile::new`
 -- checkedOf, and the function exported for each call is the same with its answer as one number. What the small program
 -- writes is programOf by the promise of `rebuild_answer::answer`; its `main`, which reads and writes, has none. The two
--- functions exported beside the calls, product and inverse of bytes, refuse nothing: that 0 has no inverse is an answer.
+-- functions exported beside the calls, product and inverse of bytes, refuse nothing; that 0 has no inverse is not a
+-- refusal.
 --
 -- 'every entry point answers, and takes nobody's word that the input was checked': each function of the store is proved
 -- to end without a fault, and no entry point has a `requires`.

@@ -10,7 +10,7 @@
 -- log a               : the logarithm of a; 0 for 0
 -- tableOf f           : the table of 256 entries that holds f at each byte
 -- squares n a         : the product of a^2, a^4, a^8, .., n factors
--- inverse a           : the inverse of a, which is not 0: the 254th power
+-- inverse a           : the inverse of a, where a is not 0: the 254th power of a
 -- invertedOf a        : the inverse of a, or that a has none
 -- productOf xs        : the product of all entries of xs
 -- quotientsOf xs ys   : each entry of xs divided by the entry of ys at its place
@@ -77,7 +77,8 @@ squares zero a = 1
 squares (suc n) a = timesNext (squares n) (a ⊗ a)
 
 -- The 254th power, 254 being 2 + 4 + .. + 128. The 255th power of every byte but 0 is 1, so that the product with this
--- is 1: InverseLaws in Laws.antt. Nothing is said of it at 0, and whoever divides by a byte shows that it is not 0.
+-- is 1: InverseLaws in Laws.antt. What it is at 0 means nothing, and nothing rests on it: whoever divides by a byte
+-- shows that it is not 0.
 unfoldable pub inverse : ℕ → ℕ
 inverse a = squares 7 a
 
@@ -90,7 +91,8 @@ unfoldable pub productOf : List ℕ → ℕ
 productOf [] = 1
 productOf (x ∷ xs) = x ⊗ productOf xs
 
--- The quotients of two lists, place by place. Where the first is longer, its rest stays as it is.
+-- The quotients of two lists, place by place, where no divisor is 0 (NoZero). Where the first is longer, its rest stays
+-- as it is.
 unfoldable pub quotientsOf : List ℕ → List ℕ → List ℕ
 quotientsOf [] ys = []
 quotientsOf (x ∷ xs) [] = x ∷ xs

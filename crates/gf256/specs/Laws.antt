@@ -22,9 +22,9 @@ pub record LogarithmLaws : Type 0 where
 
 pub record InverseLaws : Type 0 where
   -- K10: 'there is none for zero', and for zero alone
-  pub none : (a : ℕ) → (invertedOf a ≡ NoInverse) ↔ (a ≡ 0)
-  -- 'and hand over the byte otherwise': the one byte whose product with a is 1. So 'no other byte has inverse 0', as
-  -- document 01 says, and 0 has none because there is no such byte.
+  pub none : (a : ℕ) → a < 256 → (invertedOf a ≡ NoInverse) ↔ (a ≡ 0)
+  -- 'and hand over the byte otherwise': the one byte whose product with a is 1. So 0 is the inverse of no byte, and 0
+  -- has none because no product with 0 is 1.
   pub byte : (a b : ℕ) → a < 256 → (invertedOf a ≡ Byte b) ↔ ((b < 256) × (a ⊗ b ≡ 1))
-  -- What quotients are made with is that byte.
-  pub handed : (a : ℕ) → 0 < a → invertedOf a ≡ Byte (inverse a)
+  -- It is the `inverse` by which contracts speak of quotients.
+  pub handed : (a : ℕ) → 0 < a → a < 256 → invertedOf a ≡ Byte (inverse a)

@@ -104,7 +104,8 @@ fn pair_determinants(p: Profile, f: Node, nodes: &[u8], out: &mut [u8])
     }
 }
 
-// By what row c of node i of f's group is multiplied, where c is f's local column and i is not c.
+// By what row c of node i of f's group is multiplied, where c is f's local column and i is not c: the inverse of the
+// factor there, which is not 0 off the diagonal.
 fn own_scale(p: Profile, f: Node, i: usize) -> u8
     requires { ⌜ Accepted p × (i < p .a) × (i ≢ f .0 % p .a) ⌝ }
     ensures { λ r. ⌜ r ≡ number (ownScaleAt p f i) ⌝ }

@@ -2,7 +2,7 @@
 --
 -- Case                : what a definition gives, and what document 01 says it gives
 -- profile t           : the numbers (4,2,2), S = 1, with the coupling constant t
--- inverseBytes i      : an inverse as a list of one byte, or of none
+-- inverseBytes i      : an inverse as a list of one byte; the empty list if there is none
 -- outcome o           : an answer and a lent buffer as one list: number, value, bytes
 -- outerColumns o      : the same with the columns of nodes 0 and 3 alone
 -- bundle f fields     : a bundle for the lost node f, scenario 7, with these fields 03
@@ -117,7 +117,7 @@ joined [] = []
 joined (x ∷ xs) = x ++ joined xs
 
 -- An inverse as a list: empty if there is none.
-abbrev pub inverseBytes : Inverted → List ℕ
+abbrev inverseBytes : Inverted → List ℕ
 inverseBytes (Byte b) = b ∷ []
 inverseBytes NoInverse = []
 
@@ -198,12 +198,12 @@ marked =
 pub shown : map (λ c. c .gives) marked ≡ map (λ c. c .says) marked
 unfolding marked lent encodeOf encodeWith encodeTests onAccepted profileTests shapeAccepted constantAccepted
     stripAccepted tried answerNumber answerValue encoded laidOut coupledAt constantOf baseAt byteAt start listed sum
-    weight byte number bytes _⊕_ _⊗_ double bitProduct squares inverse invertedOf ℕ-discrete decLt planOf planWith planTests
-    planned pairsAt planBytes isOwn isDiagonal isOffDiagonal rising rebuildOf rebuildWith rebuildTests bundleTests
-    messageTests opened formed headed placed fresh placeIn recordingIn stripFieldStart plannedAt slice same all
-    opening twoBytes fourBytes profileContent lostContent recordingBytes rebuiltOf rebuiltOver givenAt positionOf
-    samePlace columnOf rebuiltAt rowSymbol otherAt base factor readOf readWith readTests listAccepted numberOf
-    ambiguous indexOf eliminationOf squareOf coefficientLine coefficientAt endFrom pivotIn lifted stepped filled
-    multiplierAt addedScaled patched unitSquare unitLine surveyOf surveyWith surveyTests resultOf foundFrom failsAt
-    firstIn sets setAt surveyAnswer outcomeNumber failingPosition lookedIn
+    weight byte number bytes _⊕_ _⊗_ double bitProduct squares inverse invertedOf ℕ-discrete decLt planOf planWith
+    planTests planned pairsAt planBytes isOwn isDiagonal isOffDiagonal rising rebuildOf rebuildWith rebuildTests
+    bundleTests messageTests opened formed headed placed fresh placeIn recordingIn stripFieldStart plannedAt slice
+    same all opening twoBytes fourBytes profileContent lostContent recordingBytes rebuiltOf rebuiltOver givenAt
+    positionOf samePlace columnOf rebuiltAt rowSymbol otherAt base factor readOf readWith readTests listAccepted
+    numberOf ambiguous indexOf eliminationOf squareOf coefficientLine coefficientAt endFrom pivotIn lifted stepped
+    filled multiplierAt addedScaled patched unitSquare unitLine surveyOf surveyWith surveyTests resultOf foundFrom
+    failsAt firstIn sets setAt surveyAnswer outcomeNumber failingPosition lookedIn
 shown = refl

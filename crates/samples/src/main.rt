@@ -1,5 +1,5 @@
-// Runs the documents' samples and edges, and prints what each gives. The file `stdout` says what the documents say;
-// document 01's marked cases are shown in specs/Marked.antt besides.
+// Runs document 01's samples and edges, and document 02's K10, and prints what each gives. The file `stdout` says what
+// the documents say; the marked cases are shown in specs/Marked.antt besides.
 ghost use Prim.Native.Nat.{_≤_, _<_};
 use document::Answer;
 use document::Numbers;
@@ -244,7 +244,7 @@ fn print_edge(name: &[u8], p: Numbers, size: usize, room: usize)
     print(b"\n");
 }
 
-// Document 02's inverse of 0.
+// K10: 0 has no inverse.
 fn print_inverse_of_zero() {
     print(b"inverse of 0");
     print_inverse(0);

@@ -69,14 +69,11 @@ module _ {rows columns r : ℕ} {a : Left} {t : List Line} {end : Eliminated} (w
       pivot : Pivoted (a .lines) r r rows p
       pivot = pivoted (a .lines) r r rows p (found e)
 
-      pub reached-below : p < 80
-      reached-below = omega (arith, pivot .high)
-
       -- the entry that was found is one to divide by
       pub reached-pivot : (r < 80) × (p < 80) × (0 < getD (a .entries) p 0)
       reached-pivot = (
         omega (arith, w .small),
-        reached-below,
+        omega (arith, pivot .high),
         omega (arith, pivot .nonzero, column .held p (pivot .high) .value),
       )
 

@@ -4,8 +4,9 @@
 -- Gathered f j rows i e : e has room for rows entries, and holds those in column j of the first i of the lines f 0,
 --                         f 1, ..
 -- EntriesOf s j rows e  : e holds the entries of column j in the lines of s below rows
--- Multipliers e r p c   : c i is what line i is given of line r, so that the column with the entries e has 1 in line r
---                         and 0 elsewhere; the pivot is the entry of line p, which is not 0
+-- Multipliers e r p c   : c i is what line i is given of line r once line p, the pivot's, is added to it where they are
+--                         two. e has the entries before that: the inverse of the pivot times line i's, and for line r
+--                         what makes its pivot 1
 -- Cleared c r rows b z  : z is b after the step that adds c i times line r to each line i below rows, with the entries
 --                         of the column after r; of column 0 past the last that there is room for
 use mathlib.Core.Path.{_≡_}

@@ -91,8 +91,8 @@ fn find_pivot(entries: [u8; SIDE], from: usize, rows: usize) -> Pivot
 }
 
 // What each line is given of line r, so that the column has 1 there and 0 elsewhere: the entry times the inverse of the
-// pivot, and in line r itself what makes the pivot 1. The pivot is the entry of line p, which line r has once p is added
-// to it; its own may have been 0.
+// pivot, and in line r itself what makes the pivot 1. The pivot is the entry of line p. Where p is not r, the entry of
+// line r is 0 and becomes the pivot when line p is added to it.
 fn multipliers(entries: [u8; SIDE], r: usize, p: usize) -> [u8; SIDE]
     requires { ⌜ (r < side) × (p < side) × (0 < getD entries p 0) ⌝ }
     ensures { λ z. ⌜ Multipliers entries r p z ⌝ }

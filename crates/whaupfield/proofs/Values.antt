@@ -61,7 +61,7 @@ pub inverse-given-back : InverseGivenBack
 unfolding packedInverse
 inverse-given-back = record {
   byte = λ b. (omega arith, omega arith);
-  none = refl;
+  none = (refl, refl);
   no-refusal = λ r e. omega (arith, number-bound r);
 }
 

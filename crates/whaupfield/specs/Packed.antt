@@ -21,8 +21,8 @@
 -- SurveyGivenBack s  : they give number, outcome, position and sets looked at of the survey's answer s back
 -- SurveysGivenBack   : so they do of every answer that a survey can give. Shown in proofs/Values.antt:
 --                      surveys-given-back
--- InverseGivenBack   : they give the inverse back, and that there is none. Shown in proofs/Values.antt:
---                      inverse-given-back
+-- InverseGivenBack   : they give the inverse back, and that there is none, whose number is that of no refusal. Shown in
+--                      proofs/Values.antt: inverse-given-back
 use mathlib.Core.Path.{_≡_}
 use mathlib.Core.Logic.{_≢_}
 use mathlib.Core.List.{List}
@@ -54,8 +54,8 @@ packedSurvey s =
 abbrev pub packedSurveyWith : {X : Type 0} → Surveyed × X → ℕ × X
 packedSurveyWith (answer, x) = (packedSurvey answer, x)
 
--- Document 02, K10: 'say there is none for zero'. This is not the answer of a call that is refused, so its number is
--- none of the refusals'.
+-- Document 02, K10: 'say there is none for zero'. No refusal of the documents is meant, and this number, which is ours,
+-- is that of none.
 abbrev pub noInverse : ℕ
 noInverse = 255
 
@@ -105,5 +105,5 @@ SurveysGivenBack = (p : Numbers) (start most : ℕ) (x : List ℕ) → SurveyGiv
 
 pub record InverseGivenBack : Type 0 where
   pub byte : (b : ℕ) → (unpackedNumber (packedInverse (Byte b)) ≡ 0) × (unpackedValue (packedInverse (Byte b)) ≡ b)
-  pub none : unpackedNumber (packedInverse NoInverse) ≡ noInverse
+  pub none : (unpackedNumber (packedInverse NoInverse) ≡ noInverse) × (unpackedValue (packedInverse NoInverse) ≡ 0)
   pub no-refusal : (r : Refusal) → numberOf r ≢ noInverse

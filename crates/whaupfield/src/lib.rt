@@ -165,7 +165,7 @@ pub extern "C" fn whaupfield_product(a: u8, b: u8) -> u8
     gf256::mul(a, b)
 }
 
-// The answer of an inverse: the byte is its value, with the number 0. That there is none is a number of its own.
+// An inverse as one number: 0 in the low byte and the inverse above it, or 255 if there is none.
 fn pack_inverse(inverse: Inverted) -> u64
     ensures { λ r. ⌜ r ≡ packedInverse inverse ⌝ }
 {
