@@ -18,11 +18,11 @@
  * is many arrays, and nothing in a bundle tells two arrays of one recording, or two runs of one scenario, apart: the
  * host keeps them apart.
  *
- * Answers, the same for every call that takes a profile: WHAUPFIELD_NUMBER is 0 on success, otherwise the number of the refusal;
- * WHAUPFIELD_VALUE is what comes with it. On success each call below says what that is. With WHAUPFIELD_MISPLACED and
- * WHAUPFIELD_STALE it is the index of the first such strip, from 0 in plan order, with any other refusal 0. The lowest
- * number that applies is the answer: a misplaced strip goes before a stale one, wherever they stand. docs/OPERATOR.md
- * says what to do about each refusal.
+ * Answers, the same for every call that takes a profile: WHAUPFIELD_NUMBER is 0 on success, otherwise the number of the
+ * refusal; WHAUPFIELD_VALUE is what comes with it. On success each call below says what that is. With
+ * WHAUPFIELD_MISPLACED and WHAUPFIELD_STALE it is the index of the first such strip, from 0 in plan order, with any
+ * other refusal 0. The lowest number that applies is the answer: a misplaced strip goes before a stale one, wherever
+ * they stand. docs/OPERATOR.md says what to do about each refusal.
  *
  * A bundle is fields of a one-byte tag, a two-byte length and content, all numbers high byte first:
  *   01 00 06  n, k, a, t, s in two bytes
@@ -234,9 +234,9 @@ uint8_t whaupfield_product(uint8_t a, uint8_t b);
 
 /* The inverse of a byte, whose product with it is 1. On success the number is WHAUPFIELD_OK and the value the inverse,
  * which is never 0. Zero has no inverse: the number is WHAUPFIELD_NO_INVERSE and the value 0, so look at the number
- * first. Up to version 0.1.0 the inverse was returned as a uint8_t, and 0 for 0. A host that still keeps it in one gets 0
- * for every byte but 0, and 255 for 0; -Wconversion warns of that, but not of a cast, of == 0 or of a 64-bit variable:
- * look for this name in your sources. */
+ * first. Up to version 0.1.0 the inverse was returned as a uint8_t, and 0 for 0. A host that still keeps it in one gets
+ * 0 for every byte but 0, and 255 for 0; -Wconversion warns of that, but not of a cast, of == 0 or of a 64-bit
+ * variable: look for this name in your sources. */
 uint64_t whaupfield_inverse(uint8_t a);
 
 #ifdef __cplusplus
