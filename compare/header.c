@@ -376,14 +376,13 @@ static void compare_parts(void)
 static void compare_inverse(unsigned a)
 {
     uint64_t answer = whaupfield_inverse((uint8_t)a), value = WHAUPFIELD_VALUE(answer);
-    unsigned number = WHAUPFIELD_NUMBER(answer);
-    int none = number == WHAUPFIELD_NO_INVERSE && value == 0;
-    int byte = number == WHAUPFIELD_OK && value < 256 && whaupfield_product((uint8_t)a, (uint8_t)value) == 1;
+    unsigned number = WHAUPFIELD_NUMBER(answer), due = a == 0 ? WHAUPFIELD_NO_INVERSE : WHAUPFIELD_OK;
+    int right = a == 0 ? value == 0 : value < 256 && whaupfield_product((uint8_t)a, (uint8_t)value) == 1;
 
     cases++;
-    if (a == 0 ? !none : !byte)
-        disagree("inverse of %u: %u with %llu, expected %s", a, number, (unsigned long long)value,
-                 a == 0 ? "255 with 0" : "0 with the byte whose product with it is 1");
+    if (number != due || !right)
+        disagree("inverse of %u: %u with %llu, expected %u with %s", a, number, (unsigned long long)value, due,
+                 a == 0 ? "0" : "the byte whose product with it is 1");
 }
 
 static void compare_inverses(void)
