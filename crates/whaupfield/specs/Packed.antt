@@ -54,8 +54,8 @@ packedSurvey s =
 abbrev pub packedSurveyWith : {X : Type 0} → Surveyed × X → ℕ × X
 packedSurveyWith (answer, x) = (packedSurvey answer, x)
 
--- Document 02, K10: 'say there is none for zero'. No refusal of the documents is meant, and this number, which is ours,
--- is that of none.
+-- Document 02, K10: 'say there is none for zero'. It leaves the number for C to us. No refusal is meant by it, and no
+-- refusal has it.
 abbrev pub noInverse : ℕ
 noInverse = 255
 
