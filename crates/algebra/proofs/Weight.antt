@@ -15,6 +15,7 @@ use Rattle.algebra.proofs.Field.{
   add-self,
   mul-zero,
   zero-mul,
+  one-mul,
   mul-one,
   mul-comm,
   mul-assoc,
@@ -23,7 +24,7 @@ use Rattle.algebra.proofs.Field.{
   inv-ne-zero,
   inv-mul-left,
 }
-use Rattle.algebra.proofs.Sum.{sum-one}
+use Rattle.algebra.proofs.Sum.{sum-ext, sum-scale, sum-one}
 use Rattle.algebra.proofs.Polynomial.{apart, poly-one, poly-scale, poly-linear, poly-sum, agree}
 
 module _ (K : Field) where
@@ -158,24 +159,17 @@ module _ (K : Field) where
       at : (i : ℕ) → i < k → f (x i) ≡ sum K k (λ j. term j (x i))
       at i l = sym (sum-one K k i (λ j. term j (x i)) l (λ j h. other i j l) ∙ own i l)
 
-  -- A product from its first factor on.
-  pub product-first : (m : ℕ) (f : ℕ → F) → product K (suc m) f ≡ f 0 ⊗ product K m (λ i. f (suc i))
-  unfolding product
-  product-first zero f = mul-comm K 𝟙 (f 0)
-  product-first (suc m) f =
-      ap (λ p. p ⊗ f (suc m)) (product-first m f) ∙ mul-assoc K (f 0) (product K m (λ i. f (suc i))) (f (suc m))
-
-  -- A product without one factor is the whole product with that factor replaced by 1.
-  pub product-replaced : (m j : ℕ) (f : ℕ → F)
-      → product K m (λ i. pick (ℕ-discrete i j) 𝟙 (f i)) ≡ productBut K m j f
-  unfolding product productBut
-  product-replaced zero j f = refl
-  product-replaced (suc m) j f = go (ℕ-discrete m j) (product-replaced m j f)
+  -- A product without one factor, with one factor more: 1 in place of the one that is left out.
+  pub product-next : (m j : ℕ) (f : ℕ → F)
+      → productBut K (suc m) j f ≡ productBut K m j f ⊗ pick (ℕ-discrete j m) 𝟙 (f m)
+  unfolding productBut
+  product-next m j f = go (ℕ-discrete m j) (ℕ-discrete j m)
     where
-      go : (d : Dec (m ≡ j)) → {p : F} → p ≡ productBut K m j f
-          → p ⊗ pick d 𝟙 (f m) ≡ pick d (productBut K m j f) (productBut K m j f ⊗ f m)
-      go (yes e) h = mul-one K _ ∙ h
-      go (no n) h = ap (λ p. p ⊗ f m) h
+      go : (d : Dec (m ≡ j)) (e : Dec (j ≡ m)) → {p : F} → pick d p (p ⊗ f m) ≡ p ⊗ pick e 𝟙 (f m)
+      go (yes d) (yes e) = sym (mul-one K _)
+      go (yes d) (no e) = absurd (e (sym d))
+      go (no d) (yes e) = absurd (d (sym e))
+      go (no d) (no e) = refl
 
   -- A product without one factor is not 0 where no other factor is.
   pub product-ne-zero : (m j : ℕ) (f : ℕ → F) → ((i : ℕ) → i < m → i ≢ j → f i ≢ 𝟘) → productBut K m j f ≢ 𝟘
@@ -191,18 +185,52 @@ module _ (K : Field) where
   cancel : (a b : F) → a ≢ 𝟘 → a ⊗ b ⊗ inv a ≡ b
   cancel a b n = mul-comm K (a ⊗ b) (inv a) ∙ inv-mul-left K a b n
 
-  -- A weight in barycentric form: the product of all differences, divided by the point's own and by the denominator.
-  pub weight-quotient : (m : ℕ) (x : ℕ → F) (j : ℕ) (z : F) → j < m → Avoids K m x j (x j) → z ≢ x j
-      → product K m (λ i. z ⊕ x i) ⊗ inv (z ⊕ x j) ⊗ inv (productBut K m j (λ i. x j ⊕ x i)) ≡ weight K m x j z
+  -- A weight in barycentric form: the product of all differences, divided by the point's own times the denominator.
+  weight-quotient : (m : ℕ) (x : ℕ → F) (j : ℕ) (z : F) → j < m → Avoids K m x j (x j) → z ≢ x j
+      → product K m (λ i. z ⊕ x i) ⊗ inv ((z ⊕ x j) ⊗ productBut K m j (λ i. x j ⊕ x i)) ≡ weight K m x j z
   weight-quotient m x j z l a o =
-      ap (λ p. p ⊗ inv (z ⊕ x j) ⊗ inv below) (product-split m j (λ i. z ⊕ x i) l)
-      ∙ ap (λ p. p ⊗ inv below) (cancel (z ⊕ x j) (productBut K m j (λ i. z ⊕ x i)) (add-ne-zero K z (x j) o))
-      ∙ ap (λ p. p ⊗ inv below) (sym (weight-product x j z m a) ∙ mul-comm K (weight K m x j z) below)
-      ∙ cancel below (weight K m x j z)
-      (product-ne-zero m j (λ i. x j ⊕ x i) (λ i h n. add-ne-zero K (x j) (x i) (a i h n)))
+      ap (λ p. p ⊗ inv (own ⊗ below))
+      (product-split m j (λ i. z ⊕ x i) l
+      ∙ ap (λ p. own ⊗ p) (sym (weight-product x j z m a) ∙ mul-comm K (weight K m x j z) below)
+      ∙ sym (mul-assoc K own below (weight K m x j z)))
+      ∙ cancel (own ⊗ below) (weight K m x j z)
+      (mul-ne-zero K own below (add-ne-zero K z (x j) o)
+      (product-ne-zero m j (λ i. x j ⊕ x i) (λ i h n. add-ne-zero K (x j) (x i) (a i h n))))
     where
+      own : F
+      own = z ⊕ x j
+
       below : F
       below = productBut K m j (λ i. x j ⊕ x i)
+
+  -- The weights from inverses alone: they add up to 1, so that the sum of the inverses of the divisors is the inverse of
+  -- the product of all differences.
+  module _ (m : ℕ) (x : ℕ → F) (z : F) (some : 0 < m) (d : DistinctPoints K m x) (o : (i : ℕ) → i < m → z ≢ x i) where
+    abbrev inverses : ℕ → F
+    inverses j = inv ((z ⊕ x j) ⊗ productBut K m j (λ i. x j ⊕ x i))
+
+    abbrev all : F
+    all = product K m (λ i. z ⊕ x i)
+
+    quotient : (j : ℕ) → j < m → all ⊗ inverses j ≡ weight K m x j z
+    quotient j l = weight-quotient m x j z l (apart K m x d j l) (o j l)
+
+    product-sum : all ⊗ sum K m inverses ≡ 𝟙
+    product-sum =
+        sym (sum-scale K m all inverses)
+        ∙ sum-ext K m (λ j l. quotient j l ∙ sym (one-mul K (weight K m x j z)))
+        ∙ sym (lagrange m x d (poly-one K m some) z)
+
+    pub sum-ne-zero : sum K m inverses ≢ 𝟘
+    sum-ne-zero e = K .one-ne-zero (sym product-sum ∙ ap (λ s. all ⊗ s) e ∙ mul-zero K all)
+
+    pub weight-share : (j : ℕ) → j < m → inv (sum K m inverses) ⊗ inverses j ≡ weight K m x j z
+    weight-share j l =
+        ap (λ p. p ⊗ inverses j)
+        (sym (mul-one K (inv (sum K m inverses)))
+        ∙ ap (λ p. inv (sum K m inverses) ⊗ p) (sym product-sum ∙ mul-comm K all (sum K m inverses))
+        ∙ inv-mul-left K (sum K m inverses) all sum-ne-zero)
+        ∙ quotient j l
 
   -- A weight depends on its own point and the first m points alone.
   weight-same : (m : ℕ) (x y : ℕ → F) (j : ℕ) (z : F) → x j ≡ y j → ((i : ℕ) → i < m → x i ≡ y i)

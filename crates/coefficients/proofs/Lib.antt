@@ -1,4 +1,5 @@
 pub mod Lists
 pub mod Lagrange
+pub mod Factors
 pub mod Combination
 pub mod Data

@@ -5,17 +5,21 @@
 -- points nodes i        : the point of the i-th node, 'the field element with that number'
 -- weightsOf nodes at    : the weight at `at` of each of the nodes
 -- differencesOf nodes x : the sum of x and each of the nodes
+-- factorsOf nodes q     : the differences for the q-th node, with 1 in place of its own, which is 0
+-- paddedTo m xs         : xs, which has at most m entries, with ones past it up to m
 -- denominatorOf nodes q : the product of the sums of the q-th node and each other node
 -- denominatorsOf nodes  : the denominator of each of the nodes
--- Divisors ds ms        : at most maxNodes differences ds and as many denominators ms, none of them 0
--- weightsFrom ds ms     : for each node the product of all differences, divided by its own difference and denominator
+-- sharesOf ds ms        : the inverse of the product of each of the differences ds and its denominator, in the list ms
+-- Divisors ds ms        : a denominator for each difference, no product of the two is 0, nor is the sum of the shares
+-- weightsFrom ds ms     : each of the shares divided by the sum of all
 use mathlib.Core.Path.{_≡_}
 use mathlib.Core.Logic.{_≢_}
 use mathlib.Core.List.{List}
 use Prim.Native.Nat.{ℕ, _≤_, _<_}
-use lib.ListN.{length, getD}
+use lib.ListN.{length, getD, set}
 use Rattle.lists.specs.Listed.{listed}
-use Rattle.gf256.specs.Field.{productOf, quotientsOf, NoZero}
+use Rattle.gf256.specs.Field.{inverse, totalOf, productsOf, inversesOf, NoZero}
+use Rattle.coupling.specs.Pairs.{multipleOf}
 use Rattle.algebra.specs.Weight.{weight, productBut}
 use Rattle.document.specs.Profile.{maxNodes}
 use Rattle.document.specs.ByteField.{bytes, Byte, byte, number}
@@ -37,9 +41,17 @@ points nodes i = byte (getD nodes i 0)
 unfoldable pub weightsOf : List ℕ → ℕ → List ℕ
 weightsOf nodes at = listed (length nodes) (λ q. number (weight bytes (length nodes) (points nodes) q (byte at)))
 
--- The factors of a numerator, or of a denominator: adding is subtracting.
+-- The factors of a numerator: adding is subtracting.
 unfoldable pub differencesOf : List ℕ → ℕ → List ℕ
 differencesOf nodes x = listed (length nodes) (λ i. number (bytes .add (byte x) (points nodes i)))
+
+-- One factor of each denominator: the difference of its node and node q. Node q has none with itself.
+unfoldable pub factorsOf : List ℕ → ℕ → List ℕ
+factorsOf nodes q = set (differencesOf nodes (getD nodes q 0)) q 1
+
+-- A list in a longer one that is multiplied whole: a factor 1 changes nothing.
+unfoldable pub paddedTo : ℕ → List ℕ → List ℕ
+paddedTo m xs = listed m (λ i. getD xs i 1)
 
 -- What the weight of node q is divided by, wherever it is taken.
 unfoldable pub denominatorOf : List ℕ → ℕ → ℕ
@@ -49,14 +61,17 @@ denominatorOf nodes q = number (productBut bytes (length nodes) q (λ i. bytes .
 unfoldable pub denominatorsOf : List ℕ → List ℕ
 denominatorsOf nodes = listed (length nodes) (denominatorOf nodes)
 
--- What a caller shows of the divisors: none is 0.
-pub record Divisors (differences denominators : List ℕ) : Type 0 where
-  pub few : length differences ≤ maxNodes
-  pub alike : length denominators ≡ length differences
-  pub no-difference-zero : NoZero differences
-  pub no-denominator-zero : NoZero denominators
+-- The inverse of the product of a difference and its denominator: the weight but for a factor that all have in common.
+abbrev pub sharesOf : List ℕ → List ℕ → List ℕ
+sharesOf differences denominators = inversesOf (productsOf differences denominators)
 
--- The weights in barycentric form: the product of all differences is computed once.
+-- What a caller shows of all that is divided by: none is 0.
+pub record Divisors (differences denominators : List ℕ) : Type 0 where
+  pub alike : length differences ≡ length denominators
+  pub no-zero : NoZero (productsOf differences denominators)
+  pub no-zero-total : 0 < totalOf (sharesOf differences denominators)
+
+-- The weights in barycentric form: they add up to 1, so that each is its share divided by the sum of the shares.
 unfoldable pub weightsFrom : List ℕ → List ℕ → List ℕ
 weightsFrom differences denominators =
-    quotientsOf (quotientsOf (listed (length differences) (λ i. productOf differences)) differences) denominators
+    multipleOf (inverse (totalOf (sharesOf differences denominators))) (sharesOf differences denominators)

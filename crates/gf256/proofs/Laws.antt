@@ -1,9 +1,10 @@
--- What the documents say of logarithms and inverses.
+-- What the documents say of logarithms, products and inverses.
 use mathlib.Core.Path.{_≡_, refl}
 use native.Mathlib.Omega.{arith}
 use Rattle.gf256.specs.Field.{_⊕_, double, log, log-from}
-use Rattle.gf256.specs.Laws.{LogarithmLaws, InverseLaws}
+use Rattle.gf256.specs.Laws.{LogarithmLaws, ProductLaws, InverseLaws}
 use Rattle.gf256.proofs.Tables.{log-lt, power-log}
+use Rattle.gf256.proofs.Powers.{mul-power, less-small}
 use Rattle.gf256.proofs.Inverses.{inverted-zero, inverted-above, none-zero, byte-product, product-byte}
 
 log-one : log 1 ≡ 0
@@ -20,6 +21,12 @@ logarithm-laws = record {
   of-one = log-one;
   of-zero = log-zero;
   power-at = power-log;
+}
+
+pub product-laws : ProductLaws
+product-laws = record {
+  by-logarithms = λ a b p h q k. mul-power p h q k;
+  small = λ a b h k. less-small (log-lt a h) (log-lt b k);
 }
 
 pub inverse-laws : InverseLaws

@@ -1,10 +1,13 @@
--- Products, quotients and inverses by logarithms.
+-- Powers of 2: products and inverses by logarithms.
 use mathlib.Core.Path.{_≡_, refl, sym, ap, ap₂, _∙_}
-use Prim.Native.Nat.{ℕ, zero, suc, _+_, _-_, _*_, _/_, _%_, _<_}
+use mathlib.Core.Bool.{Bool, true, false, cond}
+use Prim.Native.Nat.{ℕ, zero, suc, _+_, _-_, _*_, _<_, _≤_}
 use native.Mathlib.Nat.{mul-suc, zero-mul, mul-add, add-mul, mul-assoc, suc-add, zero-add}
 use native.Mathlib.Omega.{arith}
-use lib.Dec.{lit<}
+use lib.Dec.{ltb, lit<}
+use borrow.Author.Tests.{ltb-true, ltb-false}
 use Rattle.gf256.specs.Field.{_⊕_, _⊗_, double, power, log, squares, inverse}
+use Rattle.gf256.specs.Laws.{lessCycle}
 use Rattle.gf256.proofs.Product as P
 use Rattle.gf256.proofs.Tables.{log-lt}
 pub use Rattle.gf256.proofs.Tables.{power-log}
@@ -32,11 +35,26 @@ power-multiple (suc k) =
     ap power (mul-suc 255 k) ∙ power-add (255 * k) 255 ∙ ap₂ _⊗_ (power-multiple k) power-cycle ∙ P.one-mul 1 (lit< tt)
 
 -- the powers of 2 repeat after 255
-pub power-over : (n : ℕ) → power (n % 255) ≡ power n
-power-over n =
-    sym (P.one-mul (power (n % 255)) (power-lt (n % 255)))
-    ∙ ap (λ (x : ℕ). x ⊗ power (n % 255)) (sym (power-multiple (n / 255)))
-    ∙ sym (power-add (255 * (n / 255)) (n % 255)) ∙ ap power (omega arith)
+power-repeat : (m n : ℕ) → m + 255 ≡ n → power m ≡ power n
+power-repeat m n e =
+    sym (P.mul-one (power m) (power-lt m)) ∙ ap (λ (x : ℕ). power m ⊗ x) (sym power-cycle) ∙ sym (power-add m 255)
+    ∙ ap power e
+
+-- what holds of k where n is above m, and of n where it is not
+by-test : (P : ℕ → Type 0) (m n k : ℕ) → (m < n → P k) → (n ≤ m → P n) → P (cond (ltb m n) k n)
+by-test P m n k above below = go (ltb m n) (λ e. above (ltb-true m n e)) (λ e. below (ltb-false m n e))
+  where
+    go : (t : Bool) → (t ≡ true → P k) → (t ≡ false → P n) → P (cond t k n)
+    go true y z = y refl
+    go false y z = z refl
+
+power-less : (n : ℕ) → power (lessCycle n) ≡ power n
+unfolding lessCycle
+power-less n = by-test (λ k. power k ≡ power n) _ n _ (λ h. power-repeat _ n (omega arith)) (λ h. refl)
+
+pub less-small : {m n : ℕ} → m < 255 → n < 255 → lessCycle (m + n) ≤ 254
+unfolding lessCycle
+less-small {m} {n} h l = by-test (λ k. k ≤ 254) _ (m + n) _ (λ g. omega arith) (λ g. omega arith)
 
 -- 2 + 4 + 8 + .., n terms
 exponent : ℕ → ℕ
@@ -79,9 +97,7 @@ module _ {a : ℕ} (p : 0 < a) (h : a < 256) where
       (ap (λ (x : ℕ). x ⊗ power (255 - log a)) (sym (power-log a p h)) ∙ sym (power-add (log a) (255 - log a))
       ∙ ap power (omega (arith, log-lt a h)) ∙ power-cycle)
 
-module _ {a b : ℕ} (p : 0 < a) (h : a < 256) (q : 0 < b) (k : b < 256) where
-  pub mul-power : a ⊗ b ≡ power (log a + log b)
-  mul-power = sym (power-add (log a) (log b) ∙ ap₂ _⊗_ (power-log a p h) (power-log b q k))
-
-  pub quotient-power : a ⊗ inverse b ≡ power (log a + (255 - log b))
-  quotient-power = sym (power-add (log a) (255 - log b) ∙ ap₂ _⊗_ (power-log a p h) (sym (inverse-power q k)))
+-- the product by the logarithms
+pub mul-power : {a b : ℕ} → 0 < a → a < 256 → 0 < b → b < 256 → a ⊗ b ≡ power (lessCycle (log a + log b))
+mul-power {a} {b} p h q k =
+    sym (power-less (log a + log b) ∙ power-add (log a) (log b) ∙ ap₂ _⊗_ (power-log a p h) (power-log b q k))

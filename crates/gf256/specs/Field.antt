@@ -12,9 +12,13 @@
 -- squares n a         : the product of a^2, a^4, a^8, .., n factors
 -- inverse a           : the inverse of a, where a is not 0: the 254th power of a
 -- invertedOf a        : the inverse of a, or that a has none
+-- totalOf xs          : the sum of all entries of xs
 -- productOf xs        : the product of all entries of xs
+-- productsOf xs ys    : each entry of xs multiplied by the entry of ys at its place
+-- inversesOf ys       : the inverse of each entry of ys
 -- quotientsOf xs ys   : each entry of xs divided by the entry of ys at its place
 -- NoZero ys           : no entry of ys is 0
+-- maxDivisors         : the most divisors that `divide_all` takes
 use Prim.Native.Nat.{ℕ, zero, suc, _*_, _/_, _%_, _<_}
 use mathlib.Core.Bool.{true, false, cond}
 use mathlib.Core.List.{List, [], _∷_}
@@ -86,18 +90,32 @@ inverse a = squares 7 a
 unfoldable pub invertedOf : ℕ → Inverted
 invertedOf a = cond (eqb a 0) NoInverse (Byte (inverse a))
 
+-- The sum of a list, 0 for the empty one.
+unfoldable pub totalOf : List ℕ → ℕ
+totalOf [] = 0
+totalOf (x ∷ xs) = x ⊕ totalOf xs
+
 -- The product of a list, 1 for the empty one.
 unfoldable pub productOf : List ℕ → ℕ
 productOf [] = 1
 productOf (x ∷ xs) = x ⊗ productOf xs
 
--- The quotients of two lists, place by place, where no divisor is 0 (NoZero). Where the first is longer, its rest stays
--- as it is.
+-- The products of two lists of one length, place by place.
+unfoldable pub productsOf : List ℕ → List ℕ → List ℕ
+productsOf xs ys = listed (length xs) (λ i. getD xs i 0 ⊗ getD ys i 0)
+
+-- The inverses of a list, where no entry is 0 (NoZero).
+unfoldable pub inversesOf : List ℕ → List ℕ
+inversesOf ys = listed (length ys) (λ i. inverse (getD ys i 0))
+
+-- The quotients of two lists of one length, place by place, where no divisor is 0 (NoZero).
 unfoldable pub quotientsOf : List ℕ → List ℕ → List ℕ
-quotientsOf [] ys = []
-quotientsOf (x ∷ xs) [] = x ∷ xs
-quotientsOf (x ∷ xs) (y ∷ ys) = (x ⊗ inverse y) ∷ quotientsOf xs ys
+quotientsOf xs ys = productsOf xs (inversesOf ys)
 
 -- What a caller shows of the list it divides by: every entry is above 0.
 abbrev pub NoZero : List ℕ → Type 0
 NoZero ys = (i : ℕ) → i < length ys → 0 < getD ys i 0
+
+-- The inverses of the divisors stand in an array of the call.
+abbrev pub maxDivisors : ℕ
+maxDivisors = 64

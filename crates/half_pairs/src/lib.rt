@@ -160,7 +160,8 @@ fn weight_table(p: Profile, nodes: &[u8], positions: &[u8]) -> [u8; WEIGHTS]
 }
 
 // The coefficient of the half pair y's partner in the equation for the base symbol at r, which is not on a named node:
-// the factor with which the partner stands in strip y, times the weight of y's node; 0 where y is in another row.
+// the factor with which the partner stands in strip y, times the weight of y's node at that of r; 0 where y is in
+// another row.
 fn partner_coefficient(p: Profile, nodes: &[u8], table: &[u8], r: Place, y: usize) -> u8
     requires { ⌜ Accepted p × Rising (p .n) (p .k) (now nodes) × (y < p .k * p .a) ⌝ }
     requires { ⌜ Within p r × (isNamed (p .k) (now nodes) (r .node .0) ≡ false) ⌝ }
@@ -196,22 +197,6 @@ fn system_line(p: Profile, nodes: &[u8], table: &[u8], halves: &[u8], e: usize) 
     c
 }
 
-// The system: a line for each half pair. Lines past them hold zeros.
-fn system_square(p: Profile, nodes: &[u8], table: &[u8], halves: &[u8]) -> [Line; SIDE]
-    requires { ⌜ Accepted p × Rising (p .n) (p .k) (now nodes) × (now table ≡ weightTable p (now nodes)) ⌝ }
-    requires { ⌜ now halves ≡ halfPairs p (now nodes) ⌝ }
-    ensures { λ r. ⌜ r ≡ systemSquare p (now (nodes .entry)) ⌝ }
-{
-    let mut s = [Line { c: [0u8; SIDE] }; SIDE];
-    let mut e: usize = 0;
-    while e < halves.len() {
-        let c = system_line(p, nodes, table, halves, e);
-        s[e] = Line { c: c };
-        e += 1;
-    }
-    s
-}
-
 // The half pairs of the named nodes and what belongs to them, once for a call. Past the half pairs `halves` holds
 // zeros.
 pub fn of_nodes(p: Profile, nodes: &[u8]) -> HalfPairs
@@ -230,7 +215,7 @@ pub fn of_nodes(p: Profile, nodes: &[u8]) -> HalfPairs
     }
 }
 
-// The system, made of them.
+// The system, made of them: a line for each half pair. Lines past them hold zeros.
 pub fn small_system(p: Profile, nodes: &[u8], h: HalfPairs) -> [Line; SIDE]
     requires { ⌜ Accepted p × Rising (p .n) (p .k) (now nodes) × HalfPairsOf p (now nodes) h ⌝ }
     ensures { λ r. ⌜ r ≡ systemSquare p (now (nodes .entry)) ⌝ }
@@ -238,5 +223,12 @@ pub fn small_system(p: Profile, nodes: &[u8], h: HalfPairs) -> [Line; SIDE]
     let count = h.count;
     let table = h.table;
     let halves = h.halves;
-    system_square(p, nodes, &table, &halves[..count])
+    let mut s = [Line { c: [0u8; SIDE] }; SIDE];
+    let mut e: usize = 0;
+    while e < count {
+        let c = system_line(p, nodes, &table, &halves[..count], e);
+        s[e] = Line { c: c };
+        e += 1;
+    }
+    s
 }

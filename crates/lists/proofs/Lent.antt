@@ -1,11 +1,11 @@
 -- A list whose front of k entries was lent and written: e is what stands there now, before the rest.
 use mathlib.Core.Path.{_≡_, sym, ap, _∙_}
 use mathlib.Core.List.{List, _++_}
-use Prim.Native.Nat.{ℕ, _≤_, _<_}
+use Prim.Native.Nat.{ℕ, _≤_}
 use native.Mathlib.Nat.{zero-add}
 use native.Mathlib.Omega.{arith}
-use lib.ListN.{length, length-append, length-set, take, drop, set}
-use lib.Seq.{set-append-left, take-at}
+use lib.ListN.{length, length-append, take, drop}
+use lib.Seq.{take-at}
 use Rattle.lists.specs.Put.{put, Wrote}
 
 module _ {k : ℕ} (e rest : List ℕ) (h : length e ≡ k) where
@@ -14,11 +14,6 @@ module _ {k : ℕ} (e rest : List ℕ) (h : length e ≡ k) where
 
   pub front : take k (e ++ rest) ≡ e
   front = take-at e rest k h
-
-  -- an entry of the front stored anew
-  pub front-set : (q v : ℕ) → q < k → take k (set (e ++ rest) q v) ≡ set e q v
-  front-set q v l =
-      ap (take k) (set-append-left e rest q v (omega arith)) ∙ take-at (set e q v) rest k (length-set e q v ∙ h)
 
 -- the rest stays as it was
 pub front-wrote : (d e : List ℕ) {k : ℕ} → length e ≡ k → Wrote d 0 e k (e ++ drop k d)

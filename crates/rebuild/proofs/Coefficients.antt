@@ -9,7 +9,7 @@ use Rattle.gf256.specs.Field.{_⊗_, quotientsOf}
 use Rattle.algebra.specs.Weight.{weight}
 use Rattle.algebra.specs.Rows.{coefficient}
 use Rattle.coefficients.specs.Weights.{points, weightsOf}
-use Rattle.coefficients.proofs.Lists.{quotients-listed}
+use Rattle.gf256.proofs.Lists.{quotients-listed}
 use Rattle.document.specs.declared.Profile.{Profile}
 use Rattle.document.specs.declared.Node.{Node}
 use Rattle.document.specs.ByteField.{bytes, Byte, byte, number}

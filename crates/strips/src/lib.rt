@@ -46,7 +46,7 @@ pub fn add_scaled(x: &mut [u8], at: usize, src: &[u8], c: u8)
 {
     let mut b: usize = 0;
     while b < src.len() {
-        x[at + b] = x[at + b] ^ gf256::times(c, src[b]);
+        x[at + b] = x[at + b] ^ gf256::mul(c, src[b]);
         b += 1;
     }
 }

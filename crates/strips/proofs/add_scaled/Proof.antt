@@ -22,7 +22,7 @@ loop-again : tie.Need-loop-again Inv-loop μ-loop
 unfolding _⊕_
 loop-again c =
     let l = c .before .before .before .before in
-    adding-more (l .loop .inv) (omega arith) (l .before .before .before .pre) (c .times .ensures)
+    adding-more (l .loop .inv) (omega arith) (l .before .before .before .pre) (c .mul .ensures)
 
 returns : tie.Need-returns Inv-loop μ-loop
 unfolding addedScaled
