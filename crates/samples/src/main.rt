@@ -1,5 +1,5 @@
-// Runs document 01's samples and edges, and document 02's K10, and prints what each gives. The file `stdout` says what
-// the documents say; the marked cases are shown in specs/Marked.antt besides.
+// Runs document 01's samples and edges, and document 02's K4 and K10, and prints what each gives. The file `stdout` says
+// what the documents say; the marked cases are shown in specs/Marked.antt besides.
 ghost use Prim.Native.Nat.{_≤_, _<_};
 use document::Answer;
 use document::Numbers;
@@ -244,6 +244,18 @@ fn print_edge(name: &[u8], p: Numbers, size: usize, room: usize)
     print(b"\n");
 }
 
+// K4: 142 has the logarithm 254, so that the sums are 254, 255, 256 and 508, and that of the list 509.
+fn print_products() {
+    print(b"142 times 1, 2, 4, 142 is");
+    print_number(gf256::mul(142, 1));
+    print_number(gf256::mul(142, 2));
+    print_number(gf256::mul(142, 4));
+    print_number(gf256::mul(142, 142));
+    print(b"\nproduct of 142, 142, 2 is");
+    print_number(gf256::product_of(&[142, 142, 2]));
+    print(b"\n");
+}
+
 // K10: 0 has no inverse.
 fn print_inverse_of_zero() {
     print(b"inverse of 0");
@@ -300,6 +312,7 @@ fn print_prices() {
 fn main() {
     print_samples();
     print_surveys();
+    print_products();
     print_inverse_of_zero();
     print_bundle();
     print_edges();
