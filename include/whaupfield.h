@@ -30,7 +30,7 @@
  *   03 and the length 6 + s, once for each place of the plan, in its order: node, row, scenario in four bytes, strip
  * A host that fetches the planned strips itself can put one together.
  *
- * Stack, as measured: reading back takes up to 66 KB, a survey 21 KB, a rebuild 16 KB, encoding 5 KB, the other calls
+ * Stack, as measured: reading back takes up to 70 KB, a survey 22 KB, a rebuild 16 KB, encoding 5 KB, the other calls
  * less than 1 KB. A stack that is too small ends in a fault and not in a refusal.
  */
 #ifndef WHAUPFIELD_H

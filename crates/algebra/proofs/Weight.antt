@@ -96,7 +96,7 @@ module _ (K : Field) where
     regroup : (i d z w p : F) → i ⊗ (z ⊗ w) ⊗ (p ⊗ d) ≡ i ⊗ (d ⊗ (w ⊗ p ⊗ z))
     regroup i d z w p = simp ring
 
-    -- A weight as a quotient of two products, with no inverse but one: what a program computes.
+    -- A weight as a quotient of two products, with no inverse but one.
     pub weight-product : (z : F) (m : ℕ) → Avoids K m x j (x j)
         → weight K m x j z ⊗ productBut K m j (λ i. x j ⊕ x i) ≡ productBut K m j (λ i. z ⊕ x i)
     unfolding weight productBut

@@ -1,4 +1,4 @@
--- The weights and denominators of lists of nodes: no divisor is 0, and the quotients are the weights.
+-- The weights and denominators of lists of nodes: no divisor is 0, and the shares divided by their sum are the weights.
 use mathlib.Core.Path.{_≡_, sym, ap, ap₂, subst, _∙_}
 use mathlib.Core.Logic.{_≢_}
 use mathlib.Core.List.{List}

@@ -41,7 +41,7 @@ points nodes i = byte (getD nodes i 0)
 unfoldable pub weightsOf : List ℕ → ℕ → List ℕ
 weightsOf nodes at = listed (length nodes) (λ q. number (weight bytes (length nodes) (points nodes) q (byte at)))
 
--- The factors of a numerator: adding is subtracting.
+-- The difference of x and each node: adding is subtracting.
 unfoldable pub differencesOf : List ℕ → ℕ → List ℕ
 differencesOf nodes x = listed (length nodes) (λ i. number (bytes .add (byte x) (points nodes i)))
 

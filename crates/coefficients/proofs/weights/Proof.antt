@@ -1,5 +1,5 @@
--- `coefficients::weights` meets its contract: the part of the array that was lent holds the differences, and neither
--- they nor the denominators are 0.
+-- `coefficients::weights` meets its contract: the part of the array that was lent holds the differences, and nothing
+-- that is divided by is 0.
 use mathlib.Core.Path.{_≡_, sym, ap, ap₂, subst, _∙_}
 use mathlib.Core.List.{_++_}
 use Prim.Native.Nat.{ℕ, _<_}
