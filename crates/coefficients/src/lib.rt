@@ -55,7 +55,7 @@ fn multiply_differences(out: &mut [u8], nodes: &[u8], q: usize)
 }
 
 // The denominators of the weights. They do not depend on the node wanted: computed once, they serve every one. All are
-// made at once, a list multiplied by a list for each node: one by one they take eight times as long at k = 20.
+// made at once, a list multiplied by a list for each node: one by one they take seven times as long at k = 20.
 pub fn denominators(nodes: &[u8], out: &mut [u8])
     requires { ⌜ Different (now nodes) ⌝ }
     requires { ⌜ length (now out) ≡ length (now nodes) ⌝ }
