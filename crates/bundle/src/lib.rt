@@ -51,8 +51,8 @@ fn lost_content(f: Node, r: Recording) -> [u8; LOST]
     requires { ⌜ f .0 < 256 ⌝ }
     ensures { λ content. ⌜ content ≡ lostContent f r ⌝ }
 {
-    let id = fields::four_bytes(r.scenario);
-    [f.0 as u8, id[0], id[1], id[2], id[3]]
+    let id = r.bytes();
+    [f.0 as u8, id[0], id[1], id[2], id[3], id[4], id[5]]
 }
 
 // Writes the whole bundle.

@@ -7,7 +7,7 @@ use lib.Dec.{eqb}
 use lib.ListN.{length}
 use Rattle.lists.specs.Each.{Each}
 use Rattle.lists.proofs.Each.{each-from}
-use Rattle.fields.specs.Fields.{fourBytes}
+use Rattle.fields.specs.Fields.{twoBytes, fourBytes}
 use Rattle.document.specs.declared.Numbers.{Numbers}
 use Rattle.document.specs.declared.Profile.{Profile}
 use Rattle.document.specs.declared.Node.{Node}
@@ -44,12 +44,12 @@ use Rattle.demands.proofs.Whole.{all-fixed}
 -- ---- the call
 module _ (p : Profile) (f : Node) (x b : List ℕ) where
   abbrev Sizes : Type 0
-  Sizes = (length x ≡ p .n * p .a * p .s) × (length b ≡ 17 + length (planned p f) * (9 + p .s))
+  Sizes = (length x ≡ p .n * p .a * p .s) × (length b ≡ 19 + length (planned p f) * (11 + p .s))
 
   decides-sizes : Decides (eqb (length x) (p .n * p .a * p .s) && eqb (length b) (bundleLength p f)) Sizes
   decides-sizes =
       decides-both _ _ (decides-eq (length x) _)
-      (decides-same _ (decides-eq (length b) _) (λ e. e ∙ length-is p 5 _) (λ e. e ∙ sym (length-is p 5 _)))
+      (decides-same _ (decides-eq (length b) _) (λ e. e ∙ length-is p 7 _) (λ e. e ∙ sym (length-is p 7 _)))
 
   write-decided : Decided (writeTests p f x b) (writeSentences p f x b)
   unfolding writeTests writeSentences
@@ -97,11 +97,11 @@ module _ (p : Numbers) (f : ℕ) (r : Recording) (x b : List ℕ) where
     whole = strips-whole wanted accepted x (sizes .0) r node below
 
     strips-in : HasStrips wanted (planned wanted node) x (bundleStrip wanted bundle)
-    unfolding bundleOf lostContent recordingBytes fourBytes
+    unfolding bundleOf lostContent recordingBytes fourBytes twoBytes
     strips-in i l = sym (written-strip wanted (lostContent node r) r (stripOf wanted x) whole i l)
 
-    total : length bundle ≡ 17 + length (planned wanted node) * (9 + p .s)
-    total = bundle-length wanted accepted x (sizes .0) r node below ∙ length-is wanted 5 _
+    total : length bundle ≡ 19 + length (planned wanted node) * (11 + p .s)
+    total = bundle-length wanted accepted x (sizes .0) r node below ∙ length-is wanted 7 _
 
     written-bundle : WrittenBundle p f r x b
     unfolding answerValue
@@ -109,7 +109,7 @@ module _ (p : Numbers) (f : ℕ) (r : Recording) (x b : List ℕ) where
       holds = left;
       strips = rw left strips-in;
       size = ap length left ∙ total
-          ∙ ap (λ (m : ℕ). 17 + m * (9 + p .s)) (planned-price wanted accepted node below);
+          ∙ ap (λ (m : ℕ). 19 + m * (11 + p .s)) (planned-price wanted accepted node below);
       value = ap (λ o. answerValue (o .0)) (granted .is-done) ∙ sym (ap length left);
     }
       where
@@ -153,6 +153,6 @@ module _ (p : Profile) (f : Node) (r : Recording) where
   -- a bundle that is as wanted is the one cut from any array with its strips
   pub bundle-whole : Accepted p → f .0 < p .n → (b x : List ℕ) → AsWanted p (lostContent f r) r (planned p f) b
       → length x ≡ p .n * p .a * p .s → HasStrips p (planned p f) x (bundleStrip p b) → b ≡ bundleOf p f r x
-  unfolding bundleOf lostContent recordingBytes fourBytes
+  unfolding bundleOf lostContent recordingBytes fourBytes twoBytes
   bundle-whole acc below b x w size has =
       all-fixed p (lostContent f r) r (stripOf p x) b (strips-whole p acc x size r f below) w has

@@ -10,7 +10,8 @@ use lib.ListN.{length, getD}
 use Rattle.lists.specs.Listed.{listed}
 use Rattle.lists.specs.Put.{slice}
 use Rattle.lists.specs.Each.{Each}
-use Rattle.fields.specs.Fields.{twoBytes, opening}
+use Rattle.lists.proofs.Slice.{slice-joined, slice-split}
+use Rattle.fields.specs.Fields.{twoBytes, fourBytes, opening}
 use Rattle.document.specs.declared.Profile.{Profile}
 use Rattle.document.specs.declared.Place.{Place}
 use Rattle.document.specs.declared.Recording.{Recording}
@@ -58,7 +59,7 @@ use Rattle.demands.specs.Message.{
   Formed,
   Headed,
   placeRead,
-  scenarioRead,
+  OfRecording,
   stripSentences,
   messageSentences,
 }
@@ -79,7 +80,7 @@ module _ (p : Profile) (m : ℕ) where
   unfolding stripFieldStart
   field-is i = ap₂ (λ (h w : ℕ). h + i * w) (omega arith) (omega arith)
 
-  pub length-is : (P : ℕ) → messageLength p m P ≡ 12 + m + P * (9 + p .s)
+  pub length-is : (P : ℕ) → messageLength p m P ≡ 12 + m + P * (11 + p .s)
   unfolding stripFieldStart
   length-is P = field-is P
 
@@ -93,11 +94,28 @@ module _ (p : Profile) (m : ℕ) where
         let e : at + 3 + 1 ≡ fieldStart p m i + 4 = omega (arith, field-is i) in
         ap₂ (λ (u v : ℕ). place (getD b u 0) (getD b v 0)) (ap (λ (o : ℕ). o + 3) (field-is i)) e
 
-    scenario-is : recordingIn b at ≡ scenarioRead b (fieldStart p m i)
+    -- both numbers are read where they stand
+    recording-is : recordingIn b at ≡ slice b (fieldStart p m i + 5) (4 + 2)
     unfolding recordingIn
-    scenario-is =
+    recording-is =
         let e : at + 3 + 2 ≡ fieldStart p m i + 5 = omega (arith, field-is i) in
-        ap (λ (u : ℕ). slice b u 4) e
+        ap (λ (u : ℕ). slice b u 6) e
+
+    run-at : fieldStart p m i + 5 + 4 ≡ fieldStart p m i + 9
+    run-at = omega arith
+
+    module _ (r : Recording) where
+      pub numbers-read : recordingIn b at ≡ recordingBytes r → OfRecording r b (fieldStart p m i)
+      unfolding recordingBytes fourBytes
+      numbers-read e =
+          let both = slice-split b _ 4 2 (fourBytes (r .scenario)) (twoBytes (r .run)) refl (sym recording-is ∙ e) in
+          record { scenario = both .0; run = rw (← run-at) (both .1) }
+
+      pub recording-read : OfRecording r b (fieldStart p m i) → recordingIn b at ≡ recordingBytes r
+      unfolding recordingBytes
+      recording-read o =
+          recording-is
+          ∙ slice-joined b _ 4 2 (fourBytes (r .scenario)) (twoBytes (r .run)) (o .scenario) (rw run-at (o .run))
 
     pub opening-is : slice b at 3 ≡ slice b (fieldStart p m i) 3
     opening-is = ap (λ (u : ℕ). slice b u 3) (field-is i)
@@ -143,14 +161,14 @@ module _ (p : Profile) (content : List ℕ) (r : Recording) (qs : List Place) (b
       decides-same _ (decides-place (placeIn b (start i)) (placeAt qs i)) (λ e. sym (place-is p m b i) ∙ e)
       (λ e. place-is p m b i ∙ e)
 
-  decides-fresh : (i : ℕ) → Decides (fresh r b (start i)) (scenarioRead b (fieldStart p m i) ≡ recordingBytes r)
+  decides-fresh : (i : ℕ) → Decides (fresh r b (start i)) (OfRecording r b (fieldStart p m i))
   unfolding fresh
   decides-fresh i =
-      decides-same _ (decides-list (recordingIn b (start i)) (recordingBytes r)) (λ e. sym (scenario-is p m b i) ∙ e)
-      (λ e. scenario-is p m b i ∙ e)
+      decides-same _ (decides-list (recordingIn b (start i)) (recordingBytes r)) (numbers-read p m b i r)
+      (recording-read p m b i r)
 
   pub message-decided : Decided (messageTests p content r qs b) (messageSentences p (length content) content r qs b)
-  unfolding messageTests messageSentences stripSentences recordingBytes
+  unfolding messageTests messageSentences stripSentences
   message-decided =
       line refl (decides-not _ decides-formed)
       (λ form.
@@ -176,22 +194,22 @@ module _ (p : Profile) (content : List ℕ) (r : Recording) (qs : List Place) (b
     pub is-fresh : (i : ℕ) → i < length qs → recordingIn b (stripFieldStart p (length content) i) ≡ recordingBytes r
 
   pub wanted-none : AsWanted → NoneHolds (messageSentences p (length content) content r qs b)
-  unfolding messageSentences stripSentences recordingBytes
+  unfolding messageSentences stripSentences
   wanted-none w =
       let at-place : (i : ℕ) → i < P → placeRead b (fieldStart p m i) ≡ placeAt qs i =
       λ i l. sym (place-is p m b i) ∙ w .is-placed i l in
-      let of-scenario : (i : ℕ) → i < P → scenarioRead b (fieldStart p m i) ≡ recordingBytes r =
-      λ i l. sym (scenario-is p m b i) ∙ w .is-fresh i l in
+      let of-recording : (i : ℕ) → i < P → OfRecording r b (fieldStart p m i) =
+      λ i l. numbers-read p m b i r (w .is-fresh i l) in
       search line-by-line depth 20
 
   module _ (refuted : (q : Refusal) → Holds (messageSentences p (length content) content r qs b) q → ⊥) where
     pub refuted-wanted : AsWanted
-    unfolding messageSentences stripSentences recordingBytes
+    unfolding messageSentences stripSentences
     refuted-wanted = record {
       is-formed = decided _ decides-formed (λ n. refuted Form (search by-name));
       is-headed = decided _ decides-headed (λ n. refuted Head (search by-name));
       is-placed = λ i l. place-is p m b i ∙ decided _ (decides-placed i) (λ n. refuted (Misplaced i) (search by-name));
-      is-fresh = λ i l. scenario-is p m b i ∙ decided _ (decides-fresh i) (λ n. refuted (Stale i) (search by-name));
+      is-fresh = λ i l. recording-read p m b i r (decided _ (decides-fresh i) (λ n. refuted (Stale i) (search by-name)));
     }
 
 -- ---- what is written passes

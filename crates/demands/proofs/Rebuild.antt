@@ -7,7 +7,7 @@ use lib.ListN.{length, getD, drop}
 use Rattle.lists.specs.Each.{Bytes}
 use Rattle.lists.specs.Listed.{listed}
 use Rattle.lists.proofs.Slice.{slice-at, slice-length}
-use Rattle.fields.specs.Fields.{fourBytes}
+use Rattle.fields.specs.Fields.{twoBytes, fourBytes}
 use Rattle.document.specs.declared.Numbers.{Numbers}
 use Rattle.document.specs.declared.Profile.{Profile}
 use Rattle.document.specs.declared.Node.{Node}
@@ -62,7 +62,7 @@ use Rattle.demands.proofs.Bundle.{
 -- ---- the call
 rebuild-decided : (p : Profile) (f : Node) (r : Recording) (b y : List ℕ)
     → Decided (rebuildTests p f r b y) (rebuildSentences p f r b y)
-unfolding rebuildTests rebuildSentences bundleTests bundleSentences lostContent recordingBytes fourBytes
+unfolding rebuildTests rebuildSentences bundleTests bundleSentences lostContent recordingBytes fourBytes twoBytes
 rebuild-decided p f r b y =
     line refl (decides-not _ (decides-lt (f .0) (p .n)))
     (λ h. line refl (decides-not _ (decides-eq (length y) (p .a * p .s)))
@@ -84,7 +84,7 @@ module _ (p : Numbers) (f : ℕ) (r : Recording) (b y : List ℕ) where
   rebuild-call : CallFor p (λ p. rebuildTests p lost r b y) (λ p. rebuildSentences p lost r b y)
       ((4, 0) ∷ (5, 0) ∷ (6, 0) ∷ (7, 0) ∷ (listed P (λ i. (8, i)) ++ listed P (λ i. (9, i)))) y (rebuildOf p f r b y)
       (Done 0, rebuilt profile)
-  unfolding rebuildOf rebuildWith rebuildSentences bundleSentences lostContent recordingBytes fourBytes numberOf indexOf
+  unfolding rebuildOf rebuildWith rebuildSentences bundleSentences lostContent recordingBytes fourBytes twoBytes numberOf indexOf
   rebuild-call =
       call-for p y (λ p. rebuildTests p lost r b y) (λ p. rebuildSentences p lost r b y) (λ p. 0) rebuilt
       (λ acc. rebuild-decided _ lost r b y)
@@ -107,7 +107,7 @@ module _ (p : Numbers) (f : ℕ) (r : Recording) (b y : List ℕ) where
     below = decided _ (decides-lt f (p .n)) (λ n. granted .refuted {r = OutOfRange} (search by-name))
 
     is-wanted : AsWanted profile (lostContent lost r) r (planned profile lost) b
-    unfolding rebuildSentences bundleSentences lostContent recordingBytes fourBytes
+    unfolding rebuildSentences bundleSentences lostContent recordingBytes fourBytes twoBytes
     is-wanted =
         refuted-wanted profile (lostContent lost r) r (planned profile lost) b
         (λ q h. granted .refuted {r = q} (search by-name))
@@ -118,7 +118,7 @@ module _ (p : Numbers) (f : ℕ) (r : Recording) (b y : List ℕ) where
     -- the strips of the bundle are whole
     strips-whole : Bytes b → (i : ℕ) → i < P
         → (length (bundleStrip profile b i) ≡ p .s) × Bytes (bundleStrip profile b i)
-    unfolding stripIn stripFieldStart lostContent recordingBytes fourBytes
+    unfolding stripIn stripFieldStart lostContent recordingBytes fourBytes twoBytes
     strips-whole small i l =
         (size, λ o m. rw (slice-at b _ (p .s) o (omega (arith, size))) (small _ (omega (arith, size, within))))
       where
@@ -184,7 +184,7 @@ module _ (p : Numbers) (f : ℕ) where
 
   -- ---- rebuilds from what was cut
   pub cut-passes : CutPasses p f
-  unfolding rebuildSentences bundleSentences lostContent recordingBytes fourBytes answerNumber
+  unfolding rebuildSentences bundleSentences lostContent recordingBytes fourBytes twoBytes answerNumber
   cut-passes x r b y cut size =
       let under : f < p .n = cut-below p f x r b cut in
       let read : NoneHolds (bundleSentences wanted node r b) =
@@ -204,7 +204,7 @@ module _ (p : Numbers) (f : ℕ) where
   cut-rebuilds x recording r b y cut E e = cut-column x recording r b y cut e x E (λ i l. refl)
 
   pub cut-for-wanted : CutForWanted p f
-  unfolding lostContent recordingBytes fourBytes
+  unfolding lostContent recordingBytes fourBytes twoBytes
   cut-for-wanted numbers node x recording r b y cut e =
       let H = cut-wanted numbers node x recording b cut .is-headed in
       let K = is-wanted p f r b y e .is-headed in (

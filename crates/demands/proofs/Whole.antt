@@ -1,4 +1,4 @@
--- What a message fixes that is as wanted: its field 01, the profile; its scenario number, the recording; with its
+-- What a message fixes that is as wanted: its field 01, the profile; its scenario and its run, the recording; with its
 -- strips, all its bytes.
 use mathlib.Core.Path.{_≡_, sym, ap, ap₂, _∙_}
 use mathlib.Core.List.{List, _∷_}
@@ -6,7 +6,7 @@ use Prim.Native.Nat.{ℕ, zero, suc, _+_, _*_, _-_, _/_, _%_, _≤_, _<_}
 use native.Mathlib.Nat.{zero-mul, suc-mul}
 use native.Mathlib.Decide.{decLt}
 use native.Mathlib.Omega.{arith}
-use lib.ListN.{length, getD, drop}
+use lib.ListN.{length, getD, take, drop}
 use lib.Seq.{ext-getD}
 use Rattle.lists.specs.Put.{slice}
 use Rattle.lists.specs.Each.{Each}
@@ -19,11 +19,13 @@ use Rattle.document.specs.declared.Recording.{Recording}
 use Rattle.document.specs.Profile.{profileOf}
 use Rattle.document.specs.Places.{placeAt}
 use Rattle.document.specs.Message.{
+  recordingBytes,
   recordingLength,
   profileContent,
   profileContentLength,
   profileFieldLength,
   stripFieldLength,
+  stripOffset,
   headLength,
   messageLength,
   messageOf,
@@ -43,11 +45,11 @@ use Rattle.document.proofs.Message.{
   written-strip,
 }
 use Rattle.demands.specs.Message.{Headed}
-use Rattle.demands.specs.Rebuild.{InFourBytes}
+use Rattle.demands.specs.Rebuild.{InSixBytes}
 use Rattle.demands.proofs.Message.{length-is, opening-is, AsWanted}
 
 -- ---- the profile
-two-bytes : (a b : ℕ) → a ≤ 512 → b ≤ 512 → twoBytes a ≡ twoBytes b → a ≡ b
+two-bytes : (a b : ℕ) → a < 65536 → b < 65536 → twoBytes a ≡ twoBytes b → a ≡ b
 unfolding twoBytes
 two-bytes a b l m e =
     let high : a / 256 % 256 ≡ b / 256 % 256 = ap (λ (v : List ℕ). getD v 0 0) e in
@@ -65,7 +67,7 @@ same-numbers p₁ p₂ l m e =
     let k : p₁ .k ≡ p₂ .k = ap (λ (v : List ℕ). getD v 1 0) e in
     let a : p₁ .a ≡ p₂ .a = ap (λ (v : List ℕ). getD v 2 0) e in
     let t : p₁ .t ≡ p₂ .t = ap (λ (v : List ℕ). getD v 3 0) e in
-    let s : p₁ .s ≡ p₂ .s = two-bytes (p₁ .s) (p₂ .s) l m (ap (drop 4) e) in
+    let s : p₁ .s ≡ p₂ .s = two-bytes (p₁ .s) (p₂ .s) (omega arith) (omega arith) (ap (drop 4) e) in
     ap (λ (v : ℕ). made v (p₁ .k) (p₁ .a) (p₁ .t) (p₁ .s)) n
     ∙ ap (λ (v : ℕ). made (p₂ .n) v (p₁ .a) (p₁ .t) (p₁ .s)) k
     ∙ ap (λ (v : ℕ). made (p₂ .n) (p₂ .k) v (p₁ .t) (p₁ .s)) a
@@ -93,14 +95,21 @@ from-four a l =
     let first : a / 16777216 % 256 ≡ a / 16777216 = omega arith in
     rw first (omega arith)
 
--- recordings with the same number in four bytes
-pub same-recording : (r₁ r₂ : Recording) → InFourBytes r₁ → InFourBytes r₂
-    → fourBytes (r₁ .scenario) ≡ fourBytes (r₂ .scenario) → r₁ ≡ r₂
-same-recording r₁ r₂ l m e =
-    ap made (sym (from-four (r₁ .scenario) l) ∙ ap fromFour e ∙ from-four (r₂ .scenario) m)
+-- recordings with the same bytes
+pub same-recording : (r₁ r₂ : Recording) → InSixBytes r₁ → InSixBytes r₂ → recordingBytes r₁ ≡ recordingBytes r₂
+    → r₁ ≡ r₂
+unfolding recordingBytes fourBytes twoBytes
+same-recording r₁ r₂ l m e = ap₂ made scenario run
   where
-    made : ℕ → Recording
-    made v = record { scenario = v }
+    made : ℕ → ℕ → Recording
+    made u v = record { scenario = u; run = v }
+
+    scenario : r₁ .scenario ≡ r₂ .scenario
+    scenario =
+        sym (from-four (r₁ .scenario) (l .0)) ∙ ap fromFour (ap (take 4) e) ∙ from-four (r₂ .scenario) (m .0)
+
+    run : r₁ .run ≡ r₂ .run
+    run = two-bytes (r₁ .run) (r₂ .run) (l .1) (m .1) (ap (drop 4) e)
 
 -- ---- lists alike at the indices of a range
 module _ (x y : List ℕ) where
@@ -197,10 +206,10 @@ module _ (p : Profile) (content : List ℕ) (r : Recording) (strips : Place → 
         alike-slice b written (past + 2) recordingLength
         (w .is-fresh i l ∙ sym (written-recording p content r strips whole i l))
 
-    strip : AlikeIn (past + 2 + recordingLength) (past + 2 + recordingLength + p .s)
+    strip : AlikeIn (at + stripOffset) (at + stripOffset + p .s)
     unfolding stripIn
     strip =
-        alike-slice b written (past + 2 + recordingLength) (p .s)
+        alike-slice b written (at + stripOffset) (p .s)
         (sym (has i l) ∙ sym (written-strip p content r strips whole i l))
 
     -- the field 03 of strip i
@@ -212,7 +221,7 @@ module _ (p : Profile) (content : List ℕ) (r : Recording) (strips : Place → 
         (alike-join b written past (past + 1) _ node
         (alike-join b written (past + 1) (past + 2) _ row
         (alike-join b written (past + 2) (past + 2 + recordingLength) _ recording
-        (λ o low high. strip o low (omega arith)))))
+        (λ o low high. strip o (omega arith) (omega arith)))))
 
   pub all-fixed : b ≡ messageOf p content r strips qs
   all-fixed =

@@ -8,15 +8,15 @@
 -- CutFrom p f x r b       : b is a bundle cut from the stored array x
 --
 -- bundleSentences p f r b : the lines for a bundle to read, where the profile p, the lost node f and the recording r
---                           are wanted: those of a message with 5 bytes in field 02 (Message.antt)
+--                           are wanted: those of a message with 7 bytes in field 02 (Message.antt)
 --
 -- planned p f are the planned places, bundleStrip p b i is the strip i of the bundle b: document/specs/Plan.antt and
--- Bundle.antt. The numbers are document 01's own: 17 + P(9+S).
+-- Bundle.antt. The numbers are the documents' own: K2's 19 + P(11+S).
 use mathlib.Core.Path.{_≡_}
-use mathlib.Core.List.{List, [], _∷_}
+use mathlib.Core.List.{List, [], _∷_, _++_}
 use Prim.Native.Nat.{ℕ, _+_, _*_, _<_}
 use lib.ListN.{length}
-use Rattle.fields.specs.Fields.{fourBytes}
+use Rattle.fields.specs.Fields.{twoBytes, fourBytes}
 use Rattle.document.specs.declared.Numbers.{Numbers}
 use Rattle.document.specs.declared.Profile.{Profile}
 use Rattle.document.specs.declared.Node.{Node}
@@ -33,13 +33,13 @@ use Rattle.demands.specs.Strips.{HasStrips}
 use Rattle.demands.specs.Message.{messageSentences}
 
 -- ---- writing a bundle
--- 5: 'a lent buffer .. has the wrong length': a stored array has nAS bytes, a bundle 17 + P(9+S).
+-- 5: 'a lent buffer .. has the wrong length': a stored array has nAS bytes, a bundle 19 + P(11+S).
 unfoldable pub writeSentences : Profile → Node → List ℕ → List ℕ → List Sentence
 writeSentences p f x b =
     record { refusal = OutOfRange; says = f .0 < p .n → ⊥ }
     ∷ record {
       refusal = BufferLength;
-      says = (length x ≡ p .n * p .a * p .s) × (length b ≡ 17 + length (planned p f) * (9 + p .s)) → ⊥;
+      says = (length x ≡ p .n * p .a * p .s) × (length b ≡ 19 + length (planned p f) * (11 + p .s)) → ⊥;
     }
     ∷ []
 
@@ -59,8 +59,8 @@ module _ (p : Numbers) (f : ℕ) (r : Recording) (x b : List ℕ) where
     -- 'it takes its strips from the planned places'
     pub strips : HasStrips (profileOf p) (planned (profileOf p) (record { 0 = f })) x
         (bundleStrip (profileOf p) written)
-    -- 'Length: 17 + P(9+S), P the number of places.'
-    pub size : length written ≡ 17 + priceOf (p .n) (p .k) (p .a) * (9 + p .s)
+    -- K2: 'a bundle 19 + P(11+S)', P the number of places
+    pub size : length written ≡ 19 + priceOf (p .n) (p .k) (p .a) * (11 + p .s)
     -- 'On success the answer is 0, with .. the length for a bundle'
     pub value : answerValue (writeOf p f r x b .0) ≡ length written
 
@@ -77,7 +77,9 @@ pub record CutFrom (p : Numbers) (f : ℕ) (x : List ℕ) (r : Recording) (b : L
   pub leaves : writeOf p f r x lent .1 ≡ b
 
 -- ---- a bundle to read
--- '02, length 5: lost node, scenario number in four bytes.' A scenario of 2^32 or more would count by its lowest 32
--- bits; its type rules it out.
+-- '02, ..: lost node, scenario number in four bytes', K2: 'Field 02 has length 7', and the run in two bytes after the
+-- scenario number. A scenario of 2^32 or more would count by its lowest 32 bits, a run of 2^16 or more by its lowest 16;
+-- their types rule it out.
 unfoldable pub bundleSentences : Profile → Node → Recording → List ℕ → List Sentence
-bundleSentences p f r b = messageSentences p 5 (f .0 ∷ fourBytes (r .scenario)) r (planned p f) b
+bundleSentences p f r b =
+    messageSentences p 7 (f .0 ∷ (fourBytes (r .scenario) ++ twoBytes (r .run))) r (planned p f) b

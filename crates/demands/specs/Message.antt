@@ -1,13 +1,13 @@
 -- A message to read: when a reader refuses it. Wanted are the profile p, m bytes of content in field 02, the recording
--- r and the places qs. Document 01 has one message, the bundle: there m is 5, and the places are the planned ones
--- (Bundle.antt). Field 01 takes 9 bytes, field 02 takes 3+m, so that the fields 03, of 9+S bytes each, start at 12+m:
--- in a bundle at 17.
+-- r and the places qs. Document 01 has one message, the bundle: with K2 m is 7 there, and the places are the planned
+-- ones (Bundle.antt). Field 01 takes 9 bytes, field 02 takes 3+m, so that the fields 03, of 11+S bytes each, start at
+-- 12+m: in a bundle at 19.
 --
 -- fieldStart p m i                    : where the field 03 of strip i starts, from 0
 -- Formed p m P b                      : b has the length, the tags and the field lengths of a message with P places
 -- Headed p m content b                : its fields 01 and 02 have the content that is wanted
 -- placeRead b at                      : the place in the field 03 that starts at `at`
--- scenarioRead b at                   : its scenario number, in four bytes
+-- OfRecording r b at                  : its scenario and its run are those of the recording r
 -- stripSentences p m r qs b           : the lines for the strips of a message to read
 -- messageSentences p m content r qs b : the lines for a message to read. A reader's tests decide them, where m is the
 --                                       length of the content: proofs/Message.antt, message-decided
@@ -27,18 +27,18 @@ use Rattle.document.specs.Places.{place, placeAt}
 use Rattle.demands.specs.Tables.{Sentence}
 
 abbrev pub fieldStart : Profile → ℕ → ℕ → ℕ
-fieldStart p m i = 12 + m + i * (9 + p .s)
+fieldStart p m i = 12 + m + i * (11 + p .s)
 
 -- 'bundle's total length, tags or field lengths': a field opens with a one-byte tag and a two-byte length.
 pub record Formed (p : Profile) (m P : ℕ) (b : List ℕ) : Type 0 where
-  -- 'Length: 17 + P(9+S), P the number of places', where 17 is 12+m
-  pub total : length b ≡ 12 + m + P * (9 + p .s)
+  -- K2: 'a bundle 19 + P(11+S)', P the number of places, where 19 is 12+m
+  pub total : length b ≡ 12 + m + P * (11 + p .s)
   -- '01, length 6'
   pub field-01 : slice b 0 3 ≡ 1 ∷ 0 ∷ 6 ∷ []
-  -- '02, length 5', where 5 is m
+  -- K2: 'Field 02 has length 7', where 7 is m
   pub field-02 : slice b 9 3 ≡ 2 ∷ twoBytes m
-  -- '03, length 6+S, once a planned place'
-  pub fields-03 : (i : ℕ) → i < P → slice b (fieldStart p m i) 3 ≡ 3 ∷ twoBytes (6 + p .s)
+  -- K2: 'field 03 length 8+S', 'once a planned place'
+  pub fields-03 : (i : ℕ) → i < P → slice b (fieldStart p m i) 3 ≡ 3 ∷ twoBytes (8 + p .s)
 
 -- 'content of field 01 or 02'
 pub record Headed (p : Profile) (m : ℕ) (content b : List ℕ) : Type 0 where
@@ -46,21 +46,25 @@ pub record Headed (p : Profile) (m : ℕ) (content b : List ℕ) : Type 0 where
   pub field-01 : slice b 3 6 ≡ p .n ∷ p .k ∷ p .a ∷ p .t ∷ twoBytes (p .s)
   pub field-02 : slice b 12 m ≡ content
 
--- 'node, row, scenario number, strip': what a field 03 says of its strip, past its tag and length.
+-- 'node, row, scenario number, strip', and the run 'after the scenario number': what a field 03 says of its strip, past
+-- its tag and length.
 abbrev pub placeRead : List ℕ → ℕ → Place
 placeRead b at = place (getD b (at + 3) 0) (getD b (at + 4) 0)
 
-abbrev pub scenarioRead : List ℕ → ℕ → List ℕ
-scenarioRead b at = slice b (at + 5) 4
+-- K2: 'A recording is a scenario and a run'.
+pub record OfRecording (r : Recording) (b : List ℕ) (at : ℕ) : Type 0 where
+  -- 'scenario number in four bytes'
+  pub scenario : slice b (at + 5) 4 ≡ fourBytes (r .scenario)
+  -- 'two bytes more, after the scenario number. .. The run goes high byte first'
+  pub run : slice b (at + 9) 2 ≡ twoBytes (r .run)
 
 -- 8: 'some strip's place differs from the plan's', with its index. 9: 'some strip's scenario differs from the wanted
--- one', with its index. 'The lowest number that applies is the answer, also where a stale strip stands before a
--- misplaced one.'
+-- one', with its index; K2: '7 and 9 compare both numbers'. 'The lowest number that applies is the answer, also where a
+-- stale strip stands before a misplaced one.'
 unfoldable pub stripSentences : Profile → ℕ → Recording → List Place → List ℕ → List Sentence
 stripSentences p m r qs b =
     listed (length qs) (λ i. record { refusal = Misplaced i; says = placeRead b (fieldStart p m i) ≢ placeAt qs i })
-    ++ listed (length qs)
-    (λ i. record { refusal = Stale i; says = scenarioRead b (fieldStart p m i) ≢ fourBytes (r .scenario) })
+    ++ listed (length qs) (λ i. record { refusal = Stale i; says = OfRecording r b (fieldStart p m i) → ⊥ })
 
 -- 6: '.. differ from those of the wanted profile and node'. 7: '.. differs from what is wanted'.
 unfoldable pub messageSentences : Profile → ℕ → List ℕ → Recording → List Place → List ℕ → List Sentence

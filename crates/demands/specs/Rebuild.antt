@@ -4,7 +4,7 @@
 -- rebuildSentences p f r b y : the lines for rebuilding node f from the bundle b into y, past those of a profile
 -- Demand1Rebuild p f r b y   : a rebuild refuses as they say                                        demand-1-rebuild
 -- NotRefused p f r b y       : a rebuild of node f from the bundle b, into y, is not refused
--- InFourBytes r              : the scenario number of the recording r is one that four bytes hold
+-- InSixBytes r               : the scenario of the recording r is one that four bytes hold, its run one that two bytes do
 -- RebuiltColumn p f r b y    : some encoded array has the strips of b; the rebuilt column is that of each such array
 --
 -- The statements of demand 3; Demand3.antt puts them together:
@@ -70,9 +70,9 @@ Demand1Rebuild p f r b y =
 abbrev pub NotRefused : Numbers → ℕ → Recording → List ℕ → List ℕ → Type 0
 NotRefused p f r b y = answerNumber (rebuildOf p f r b y .0) ≡ 0
 
--- 'scenario number in four bytes': a call takes no other, by its type.
-abbrev pub InFourBytes : Recording → Type 0
-InFourBytes r = r .scenario < 4294967296
+-- 'scenario number in four bytes', and a run in 'two bytes more': a call takes no others, by their types.
+abbrev pub InSixBytes : Recording → Type 0
+InSixBytes r = (r .scenario < 4294967296) × (r .run < 65536)
 
 module _ (p : Numbers) (f : ℕ) where
   -- the wanted profile, and the planned places
@@ -150,7 +150,7 @@ module _ (p : Numbers) (f : ℕ) where
   CutForWanted =
       (numbers : Numbers) (node : ℕ) (x : List ℕ) (recording r : Recording) (b y : List ℕ)
       → CutFrom numbers node x recording b → NotRefused p f r b y
-      → (numbers ≡ p) × (node ≡ f) × (InFourBytes recording → InFourBytes r → recording ≡ r)
+      → (numbers ≡ p) × (node ≡ f) × (InSixBytes recording → InSixBytes r → recording ≡ r)
 
   -- A bundle that is not refused is the one that is cut, for the wanted recording, from any array with its strips:
   -- refusals 6 to 9 leave no byte but the strips free.

@@ -29,6 +29,7 @@ use Rattle.document.specs.Message.{
   stripContent,
   stripContentLength,
   stripFieldLength,
+  stripOffset,
   messageLength,
   stripFields,
   messageOf,
@@ -40,7 +41,7 @@ use Rattle.document.specs.Message.{
 }
 
 pub recording-length : (r : Recording) → length (recordingBytes r) ≡ recordingLength
-unfolding recordingBytes fourBytes
+unfolding recordingBytes fourBytes twoBytes
 recording-length r = refl
 
 pub profile-length : (p : Profile) → length (profileContent p) ≡ profileContentLength p
@@ -216,10 +217,7 @@ module _ (p : Profile) (content : List ℕ) (r : Recording) (strips : Place → 
     pub written-strip : stripIn (p .s) message at ≡ strips here
     unfolding stripIn fieldOf opening twoBytes stripContent recordingBytes fourBytes slice
     written-strip =
-        let o : ℕ = openingLength + 2 + recordingLength in
-        let there : at + openingLength + 2 + recordingLength ≡ at + o = omega arith in
-        ap (λ (e : ℕ). slice message e (p .s)) there
-        ∙ part o (p .s) (omega arith)
+        part stripOffset (p .s) (omega arith)
         ∙ ap (λ (m : ℕ). take m (strips here)) (sym here-whole)
         ∙ take-length (strips here)
 

@@ -40,14 +40,14 @@ use Rattle.document.specs.Message.{
   messageTests,
 }
 
--- '02, length 5: lost node, scenario number in four bytes.'
+-- '02, ..: lost node, scenario number in four bytes', K2: 'Field 02 has length 7', the run after the scenario number.
 unfoldable pub lostContent : Node → Recording → List ℕ
 lostContent f r = f .0 ∷ recordingBytes r
 
 abbrev pub lostContentLength : ℕ
 lostContentLength = 1 + recordingLength
 
--- 'Length: 17 + P(9+S), P the number of places.' Field 01 takes 3+6 bytes, field 02 3+5, a field 03 3+6+S.
+-- K2: 'a bundle 19 + P(11+S)', P the number of places. Field 01 takes 3+6 bytes, field 02 3+7, a field 03 3+8+S.
 abbrev pub bundleLength : Profile → Node → ℕ
 bundleLength p f = messageLength p lostContentLength (length (planned p f))
 
@@ -56,7 +56,7 @@ longestBundle =
     openingLength + maxProfileContent + (openingLength + lostContentLength) + maxPlaces * stripFieldLength maxStrip
 
 -- 'A bundle cut from a stored array is what writing a bundle leaves: it takes its strips from the planned places and
--- the scenario number from the caller.'
+-- the scenario number from the caller', and so the run.
 unfoldable pub bundleOf : Profile → Node → Recording → List ℕ → List ℕ
 bundleOf p f r x = messageOf p (lostContent f r) r (stripOf p x) (planned p f)
 
@@ -79,7 +79,7 @@ writeWith p f r x b =
 unfoldable pub writeOf : Numbers → ℕ → Recording → List ℕ → List ℕ → Answer × List ℕ
 writeOf p f r x b = onAccepted p (λ refusal. (Refused refusal, b)) (λ p. writeWith p (record { 0 = f }) r x b)
 
--- ---- a bundle to read: 'The rebuild is given the wanted profile, node and scenario beside the bundle.'
+-- ---- a bundle to read: 'The rebuild is given the wanted profile, node and scenario beside the bundle', and the run.
 unfoldable pub bundleTests : Profile → Node → Recording → List ℕ → List Test
 bundleTests p f r b = messageTests p (lostContent f r) r (planned p f) b
 

@@ -7,7 +7,7 @@
 -- recording r and the places qs. A field starts with its tag and length, `opening`; its content follows. S is the
 -- length of a strip.
 --
--- recordingBytes r                  : what identifies a recording, in bytes
+-- recordingBytes r                  : what identifies a recording, in bytes: its scenario and its run
 -- recordingLength                   : how many bytes that is
 -- profileContent p                  : the content of field 01
 -- maxProfileContent                 : no profile's is longer
@@ -16,6 +16,7 @@
 -- stripContent q r strip            : the content of field 03 for the place q
 -- stripContentLength S              : how long it is
 -- stripFieldLength S                : the length of a field 03, tag and length counted in
+-- stripOffset                       : where the strip starts in its field 03
 -- headLength p m                    : the length of fields 01 and 02, where the content of field 02 has m bytes
 -- messageLength p m P               : the length of a message with such a field 02 and P places
 -- stripFields r strips qs           : the fields 03 for the places qs, where `strips q` is the strip for the place q
@@ -48,12 +49,13 @@ use Rattle.document.specs.declared.Refusal.the-variants.{Form, Head, Mis
 use Rattle.document.specs.Refusals.{Test}
 use Rattle.document.specs.Places.{place, samePlace, placeAt}
 
--- 'scenario number in four bytes'
+-- 'scenario number in four bytes', and K2: 'A recording is a scenario and a run, two bytes more, after the scenario
+-- number. .. The run goes high byte first'.
 abbrev pub recordingLength : ℕ
-recordingLength = 4
+recordingLength = 6
 
 unfoldable pub recordingBytes : Recording → List ℕ
-recordingBytes r = fourBytes (r .scenario)
+recordingBytes r = fourBytes (r .scenario) ++ twoBytes (r .run)
 
 -- '01, length 6: n, k, A, t, S in two bytes.'
 unfoldable pub profileContent : Profile → List ℕ
@@ -69,16 +71,21 @@ profileContentLength p = 6
 abbrev pub profileFieldLength : Profile → ℕ
 profileFieldLength p = openingLength + profileContentLength p
 
--- '03, length 6+S, once a planned place in plan order: node, row, scenario number, strip.'
+-- '03, .. once a planned place in plan order: node, row, scenario number, strip', K2: 'field 03 length 8+S', the run
+-- after the scenario number.
 unfoldable pub stripContent : Place → Recording → List ℕ → List ℕ
 stripContent q r strip = q .node .0 ∷ q .row .0 ∷ (recordingBytes r ++ strip)
 
 abbrev pub stripContentLength : ℕ → ℕ
 stripContentLength S = 2 + recordingLength + S
 
--- Tag and length counted in: 9+S bytes.
+-- Tag and length counted in: 11+S bytes.
 abbrev pub stripFieldLength : ℕ → ℕ
 stripFieldLength S = openingLength + stripContentLength S
+
+-- Past tag and length, the place and the recording.
+abbrev pub stripOffset : ℕ
+stripOffset = openingLength + 2 + recordingLength
 
 abbrev pub headLength : Profile → ℕ → ℕ
 headLength p m = profileFieldLength p + (openingLength + m)
@@ -103,7 +110,7 @@ module _ (b : List ℕ) (at : ℕ) where
   recordingIn = slice b (at + openingLength + 2) recordingLength
 
 unfoldable pub stripIn : ℕ → List ℕ → ℕ → List ℕ
-stripIn S b at = slice b (at + openingLength + 2 + recordingLength) S
+stripIn S b at = slice b (at + stripOffset) S
 
 unfoldable pub opened : ℕ → List ℕ → ℕ → Bool
 opened S b at = same (slice b at openingLength) (opening 3 (stripContentLength S))
@@ -112,7 +119,7 @@ opened S b at = same (slice b at openingLength) (opening 3 (stripContentLength S
 unfoldable pub placed : Place → List ℕ → ℕ → Bool
 placed q b at = samePlace (placeIn b at) q
 
--- 9: 'some strip's scenario differs from the wanted one'.
+-- 9: 'some strip's scenario differs from the wanted one', K2: '7 and 9 compare both numbers'.
 unfoldable pub fresh : Recording → List ℕ → ℕ → Bool
 fresh r b at = same (recordingIn b at) (recordingBytes r)
 

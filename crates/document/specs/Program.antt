@@ -26,10 +26,11 @@ use Rattle.document.specs.Rebuild.{rebuildOf}
 abbrev pub byteIn : List ℕ → ℕ → ℕ
 byteIn input i = getD input i 0
 
--- 'eleven bytes (n, k, A, t, S in two, wanted node, wanted scenario in four; ..)', high byte first as in a bundle: a
--- reading of ours, which docs/DECISIONS.md has.
+-- '(n, k, A, t, S in two, wanted node, wanted scenario in four; ..)', K2: 'The program reads thirteen bytes, the run
+-- last.' High byte first as in a bundle: for S and the scenario a reading of ours, which docs/DECISIONS.md has; for the
+-- run K2 says it.
 abbrev pub programHead : ℕ
-programHead = 11
+programHead = 13
 
 unfoldable pub wantedNumbers : List ℕ → Numbers
 wantedNumbers input = record {
@@ -46,6 +47,7 @@ wantedNode input = byteIn input 6
 unfoldable pub wantedRecording : List ℕ → Recording
 wantedRecording input = record {
   scenario = ((byteIn input 7 * 256 + byteIn input 8) * 256 + byteIn input 9) * 256 + byteIn input 10;
+  run = byteIn input 11 * 256 + byteIn input 12;
 }
 
 -- A refusal's number has at most two digits, and a bundle has at most 38 strips.

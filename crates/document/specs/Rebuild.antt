@@ -21,7 +21,6 @@ use Prim.Native.Nat.{ℕ, suc, _+_, _*_}
 use lib.Dec.{eqb, ltb}
 use lib.ListN.{length, getD}
 use Rattle.algebra.specs.Rebuild.{rebuiltAt}
-use Rattle.fields.specs.Fields.{openingLength}
 use Rattle.document.specs.declared.Numbers.{Numbers}
 use Rattle.document.specs.declared.Profile.{Profile}
 use Rattle.document.specs.declared.Node.{Node}
@@ -36,7 +35,7 @@ use Rattle.document.specs.Places.{place, samePlace}
 use Rattle.document.specs.ByteField.{bytes, Byte, byte}
 use Rattle.document.specs.Encoding.{factorAt, columnOf}
 use Rattle.document.specs.Plan.{Walk, walkOf, chosenOver, planned}
-use Rattle.document.specs.Message.{recordingLength, headLength, stripFieldLength}
+use Rattle.document.specs.Message.{stripFieldLength, stripOffset, headLength}
 use Rattle.document.specs.Bundle.{lostContentLength, bundleTests}
 
 unfoldable pub positionOf : Place → List Place → ℕ
@@ -66,7 +65,7 @@ rebuildTests p f r b y =
 
 -- The strips of a bundle lie past its head, each past the place and the recording of its field.
 abbrev pub firstStrip : Profile → ℕ
-firstStrip p = headLength p lostContentLength + openingLength + 2 + recordingLength
+firstStrip p = headLength p lostContentLength + stripOffset
 
 -- 'The rebuilt column is the AS bytes that a rebuild not refused leaves in the buffer lent for writing.'
 unfoldable pub rebuildWith : Profile → Node → Recording → List ℕ → List ℕ → Answer × List ℕ

@@ -6,6 +6,7 @@ ghost use Rattle.document.specs.Refusals.{numberOf, indexOf};
 ghost use Rattle.document.specs.ByteField.{number};
 ghost use Rattle.document.specs.Profile.{Accepted, shapeAccepted, checkedOf};
 ghost use Rattle.document.specs.Places.{place, partnerOf, Within};
+ghost use Rattle.document.specs.Message.{recordingBytes};
 ghost use Rattle.document.specs.Encoding;
 ghost use Rattle.document.specs.Encoding.{constantOf, factorAt};
 
@@ -39,14 +40,31 @@ pub struct Place {
     pub row: Row,
 }
 
-// What identifies a recording.
+// What identifies a recording: a scenario is run more than once.
 pub struct Recording {
     pub scenario: u32,
+    pub run: u16,
 }
 
 impl Recording {
-    // The bytes that it takes in a field.
-    pub const BYTES: usize = 4;
+    // How many bytes it takes in a field.
+    pub const BYTES: usize = 6;
+
+    // These bytes, as every field has them: the scenario, then the run, high byte first.
+    pub fn bytes(self) -> [u8; Recording::BYTES]
+        ensures { λ r. ⌜ r ≡ recordingBytes self ⌝ }
+    {
+        let scenario = fields::four_bytes(self.scenario);
+        let run = fields::two_bytes(self.run as usize);
+        [
+            scenario[0],
+            scenario[1],
+            scenario[2],
+            scenario[3],
+            run[0],
+            run[1],
+        ]
+    }
 }
 
 // Why a call is refused, in the order of document 01's table; `numberOf` in specs/ gives the number.
@@ -67,7 +85,7 @@ pub enum Refusal {
     Head,
     // 8: a strip's place, with the strip's index
     Misplaced(usize),
-    // 9: a strip's scenario, with the strip's index
+    // 9: a strip's scenario or run, with the strip's index
     Stale(usize),
     // 10: two different data give equal columns
     Ambiguous,

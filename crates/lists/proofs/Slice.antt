@@ -1,11 +1,24 @@
--- The laws of `slice`: of two lists in a row, its length, its entries, and when it is listed by a function of the
--- index.
-use mathlib.Core.Path.{_≡_, sym, ap, _∙_}
+-- The laws of `slice`: of two lists in a row, two in a row, its length, its entries, its parts, and when it is listed by
+-- a function of the index.
+use mathlib.Core.Path.{_≡_, sym, ap, ap₂, _∙_}
 use mathlib.Core.List.{List, _++_}
-use Prim.Native.Nat.{ℕ, _+_, _≤_, _<_}
+use Prim.Native.Nat.{ℕ, _+_, _-_, _≤_, _<_}
 use native.Mathlib.Omega.{arith}
 use lib.ListN.{length, getD, take, drop, length-drop}
-use lib.Seq.{drop-append-le, drop-append-add, take-append-le, length-take-le, getD-take, getD-drop, ext-getD}
+use lib.Seq.{
+  drop-append-le,
+  drop-append-add,
+  take-append-le,
+  length-take-le,
+  getD-take,
+  getD-drop,
+  take-take,
+  take-add,
+  take-at,
+  drop-drop,
+  drop-at,
+  ext-getD,
+}
 use Rattle.lists.specs.Listed.{listed}
 use Rattle.lists.specs.Put.{slice}
 use Rattle.lists.proofs.Listed.{listed-length, listed-at}
@@ -29,6 +42,44 @@ slice-left xs ys at m h =
 pub slice-at : (x : List ℕ) (at m i : ℕ) → i < m → getD (slice x at m) i 0 ≡ getD x (at + i) 0
 unfolding slice
 slice-at x at m i h = getD-take m (drop at x) i 0 h ∙ getD-drop at x i 0
+
+-- two slices in a row
+slice-add : (x : List ℕ) (at m n : ℕ) → slice x at (m + n) ≡ slice x at m ++ slice x (at + m) n
+unfolding slice
+slice-add x at m n =
+    take-add m n (drop at x) ∙ ap (λ (l : List ℕ). take m (drop at x) ++ take n l) (drop-drop m at x)
+
+module _ (x : List ℕ) (at m n : ℕ) (xs ys : List ℕ) where
+  pub slice-joined : slice x at m ≡ xs → slice x (at + m) n ≡ ys → slice x at (m + n) ≡ xs ++ ys
+  slice-joined d e = slice-add x at m n ∙ ap₂ _++_ d e
+
+  pub slice-split : length xs ≡ m → slice x at (m + n) ≡ xs ++ ys → (slice x at m ≡ xs) × (slice x (at + m) n ≡ ys)
+  unfolding slice
+  slice-split size e = (front, back)
+    where
+      front : slice x at m ≡ xs
+      front = sym (take-take m (m + n) (drop at x) (omega arith)) ∙ ap (take m) e ∙ take-at xs ys m size
+
+      back : slice x (at + m) n ≡ ys
+      back =
+          sym (drop-at (slice x at m) (slice x (at + m) n) m (ap length front ∙ size))
+          ∙ ap (drop m) (sym (slice-add x at m n) ∙ e)
+          ∙ drop-at xs ys m size
+
+-- a part of two slices that are alike
+pub slice-part : (x y : List ℕ) (at w o m : ℕ) → at + w ≤ length y → o + m ≤ w → slice x at w ≡ slice y at w
+    → slice x (at + o) m ≡ slice y (at + o) m
+unfolding slice
+slice-part x y at w o m fits l e =
+    let rest : ℕ = w - o in
+    let whole : w ≡ o + rest = omega arith in
+    let parts : slice x at (o + rest) ≡ slice y at o ++ slice y (at + o) rest =
+    ap (slice x at) (sym whole) ∙ e ∙ ap (slice y at) whole ∙ slice-add y at o rest in
+    let past : slice x (at + o) rest ≡ slice y (at + o) rest =
+    slice-split x at o rest (slice y at o) (slice y (at + o) rest) (slice-length y at o (omega arith)) parts .1 in
+    sym (take-take m rest (drop (at + o) x) (omega arith))
+    ∙ ap (take m) past
+    ∙ take-take m rest (drop (at + o) y) (omega arith)
 
 pub slice-listed : (x : List ℕ) (at m : ℕ) → at + m ≤ length x → (f : ℕ → ℕ)
     → ((o : ℕ) → o < m → f o ≡ getD x (at + o) 0) → listed m f ≡ slice x at m

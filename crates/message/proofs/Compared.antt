@@ -9,7 +9,7 @@ use lib.ListN.{length, getD}
 use borrow.Author.Tests.{eq-eqb, ne-eqb}
 use Rattle.lists.specs.Listed.{all}
 use Rattle.lists.specs.Put.{slice, same}
-use Rattle.fields.specs.Fields.{twoBytes, fourBytes, opening}
+use Rattle.fields.specs.Fields.{twoBytes, opening}
 use Rattle.document.specs.declared.Profile.{Profile}
 use Rattle.document.specs.declared.Place.{Place}
 use Rattle.document.specs.declared.Recording.{Recording}
@@ -30,7 +30,7 @@ use Rattle.document.specs.Message.{
   formed,
   headed,
 }
-use Rattle.document.proofs.Message.{profile-length}
+use Rattle.document.proofs.Message.{recording-length, profile-length}
 use Rattle.message.specs.PlaceBytes.{Bounded}
 use Rattle.message.specs.Reader.{FieldsFit, openedIn}
 
@@ -50,10 +50,10 @@ module _ (b : List ℕ) (at : ℕ) where
     unfolding placed samePlace placeIn
     same-node h = sym (rw (eq-eqb _ _ h))
 
-  pub fresh-is : (r : Recording) {id : List ℕ} → id ≡ fourBytes (r .scenario)
+  pub fresh-is : (r : Recording) {id : List ℕ} → id ≡ recordingBytes r
       → same (slice b (at + 3 + 2) (length id)) id ≡ fresh r b at
-  unfolding fresh recordingIn recordingBytes fourBytes
-  fresh-is r d = rw d
+  unfolding fresh recordingIn
+  fresh-is r d = rw (d, recording-length)
 
 -- ---- refusal 6
 module _ (p : Profile) (m P : ℕ) (b : List ℕ) where

@@ -7,13 +7,13 @@ ghost use Prim.Native.Nat.{_+_, _*_, _/_, _<_, _≤_};
 ghost use lib.ListN.{length};
 ghost use Rattle.lists.specs.Put.{Wrote};
 ghost use Rattle.lists.specs.Each.{Each};
-ghost use Rattle.fields.specs.Fields.{openingLength, fieldOf};
+ghost use Rattle.fields.specs.Fields.{fieldOf};
 ghost use Rattle.document.specs.Profile.{maxStrip, Accepted};
 ghost use Rattle.document.specs.Places.{Within, placeAt};
 ghost use Rattle.document.specs.Encoding.{stripOf};
 ghost use Rattle.document.specs.Message.{recordingBytes, recordingLength, profileContent, profileFieldLength};
-ghost use Rattle.document.specs.Message.{stripContent, stripFieldLength, headLength, messageLength, stripFields};
-ghost use Rattle.document.specs.Message.{messageOf, stripFieldStart};
+ghost use Rattle.document.specs.Message.{stripContent, stripFieldLength, stripOffset, headLength, messageLength};
+ghost use Rattle.document.specs.Message.{stripFields, messageOf, stripFieldStart};
 ghost use Rattle.message.specs.PlaceBytes.{placesFrom, Bounded};
 
 mod reader;
@@ -65,7 +65,7 @@ pub fn strip_field(p: Profile, m: usize, i: usize) -> usize
 // Where the first strip starts.
 pub fn first_strip(p: Profile, m: usize) -> usize
     requires { ⌜ m < 65536 ⌝ }
-    ensures { λ r. ⌜ r ≡ headLength p m + openingLength + 2 + recordingLength ⌝ }
+    ensures { λ r. ⌜ r ≡ headLength p m + stripOffset ⌝ }
 {
     head_length(p, m) + OPENING + PLACED
 }
@@ -86,7 +86,7 @@ fn put_recording(out: &mut [u8], at: usize, r: Recording) -> usize
     requires { ⌜ at + recordingLength ≤ length (now out) ⌝ }
     ensures { λ next. ⌜ Wrote (now (out .entry)) at (recordingBytes r) next (now (out .exit)) ⌝ }
 {
-    let bytes = fields::four_bytes(r.scenario);
+    let bytes = r.bytes();
     lists::put_bytes(out, at, &bytes)
 }
 

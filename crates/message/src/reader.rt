@@ -9,7 +9,7 @@ ghost use Rattle.document.specs.declared.Answer.the-variants.{Done, Refused};
 ghost use Rattle.document.specs.Refusals.{tried};
 ghost use Rattle.document.specs.Profile.{Accepted};
 ghost use Rattle.document.specs.Message;
-ghost use Rattle.document.specs.Message.{recordingLength, headLength, messageTests};
+ghost use Rattle.document.specs.Message.{stripOffset, headLength, messageTests};
 ghost use Rattle.message.specs.PlaceBytes.{placesFrom, Bounded};
 ghost use Rattle.message.specs.Reader.{FieldsFit, openedIn, placedIn, freshIn, FirstNot};
 use crate::PLACED;
@@ -48,10 +48,10 @@ fn placed(q: Place, b: &[u8], at: usize) -> bool
 
 // Whether it is of the wanted recording.
 fn fresh(r: Recording, b: &[u8], at: usize) -> bool
-    requires { ⌜ at + openingLength + 2 + recordingLength ≤ length (now b) ⌝ }
+    requires { ⌜ at + stripOffset ≤ length (now b) ⌝ }
     ensures { λ t. ⌜ t ≡ Message.fresh r (now (b .entry)) at ⌝ }
 {
-    let want = fields::four_bytes(r.scenario);
+    let want = r.bytes();
     lists::same_at(b, at + OPENING + 2, &want)
 }
 

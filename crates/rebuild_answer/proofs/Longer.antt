@@ -94,7 +94,15 @@ module _ (m : ℕ) (long : longestInput < m) (input : List ℕ) (h : m ≤ lengt
 
   recording-same : wantedRecording (take m input) ≡ wantedRecording input
   unfolding wantedRecording
-  recording-same = simp (read 7 (lit< tt), read 8 (lit< tt), read 9 (lit< tt), read 10 (lit< tt))
+  recording-same =
+      simp (
+        read 7 (lit< tt),
+        read 8 (lit< tt),
+        read 9 (lit< tt),
+        read 10 (lit< tt),
+        read 11 (lit< tt),
+        read 12 (lit< tt),
+      )
 
   prefix-same : programOf input ≡ programOf (take m input)
   unfolding programOf

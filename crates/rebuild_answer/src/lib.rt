@@ -16,8 +16,8 @@ use document::Profile;
 use document::Recording;
 use document::Refusal;
 
-// The bytes before the bundle: n, k, A, t, S in two, wanted node, wanted scenario in four.
-const WANTED: usize = 11;
+// The bytes before the bundle: n, k, A, t, S in two, wanted node, wanted scenario in four, wanted run in two.
+const WANTED: usize = 13;
 
 // As much of the input as is needed: one byte more than the head and the longest bundle. A longer input answers as its
 // first ROOM bytes do: LongerInput of specs/Room.antt.
@@ -62,7 +62,7 @@ fn numbers(input: &[u8]) -> Numbers
     }
 }
 
-// The wanted recording: the scenario's number, high byte first.
+// The wanted recording: the scenario, then the run, high byte first.
 fn recording(input: &[u8]) -> Recording
     ensures { λ r. ⌜ r ≡ wantedRecording (now (input .entry)) ⌝ }
 {
@@ -70,8 +70,11 @@ fn recording(input: &[u8]) -> Recording
     let b1 = byte_in(input, 8) as u32;
     let b2 = byte_in(input, 9) as u32;
     let b3 = byte_in(input, 10) as u32;
+    let high = byte_in(input, 11) as u16;
+    let low = byte_in(input, 12) as u16;
     Recording {
         scenario: ((b0 * 256 + b1) * 256 + b2) * 256 + b3,
+        run: high * 256 + low,
     }
 }
 

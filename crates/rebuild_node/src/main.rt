@@ -1,4 +1,4 @@
-// The small program of document 01: eleven bytes and a bundle on standard input, the rebuilt column or the line of a
+// The small program of document 01: thirteen bytes and a bundle on standard input, the rebuilt column or the line of a
 // refusal on standard output.
 use libc::STDIN_FILENO;
 use libc::STDOUT_FILENO;

@@ -5,7 +5,7 @@
 -- inverseBytes i      : an inverse as a list of one byte; the empty list if there is none
 -- outcome o           : an answer and a lent buffer as one list: number, value, bytes
 -- outerColumns o      : the same with the columns of nodes 0 and 3 alone
--- bundle f fields     : a bundle for the lost node f, scenario 7, with these fields 03
+-- bundle f fields     : a bundle for the lost node f, scenario 7, run 0, with these fields 03
 -- strip j i v         : a field 03 for node j, row i with the strip v of one byte
 -- lent m              : a buffer of m bytes that is lent
 -- rebuilt f fields    : the outcome of a rebuild of node f from such a bundle
@@ -129,15 +129,16 @@ outcome (answer, x) = answerNumber answer ∷ answerValue answer ∷ x
 abbrev pub outerColumns : Answer × List ℕ → List ℕ
 outerColumns (answer, x) = outcome (answer, take 2 x ++ drop 6 x)
 
--- A bundle for (4,2,2), t = 2, S = 1 and scenario 7: the lost node, and a field 03 of these bytes each.
+-- A bundle for (4,2,2), t = 2, S = 1, scenario 7 and run 0: the lost node, and a field 03 of these bytes each.
 abbrev pub bundle : ℕ → List (List ℕ) → List ℕ
 bundle f fields =
-    0x01 ∷ 0x00 ∷ 0x06 ∷ 0x04 ∷ 0x02 ∷ 0x02 ∷ 0x02 ∷ 0x00 ∷ 0x01 ∷ 0x02 ∷ 0x00 ∷ 0x05 ∷ f ∷ 0x00 ∷ 0x00 ∷ 0x00 ∷ 0x07
+    0x01 ∷ 0x00 ∷ 0x06 ∷ 0x04 ∷ 0x02 ∷ 0x02 ∷ 0x02 ∷ 0x00 ∷ 0x01
+    ∷ 0x02 ∷ 0x00 ∷ 0x07 ∷ f ∷ 0x00 ∷ 0x00 ∷ 0x00 ∷ 0x07 ∷ 0x00 ∷ 0x00
     ∷ joined fields
 
 -- A field 03 for node j, row i with a strip of one byte.
 abbrev pub strip : ℕ → ℕ → ℕ → List ℕ
-strip j i v = 0x03 ∷ 0x00 ∷ 0x07 ∷ j ∷ i ∷ 0x00 ∷ 0x00 ∷ 0x00 ∷ 0x07 ∷ v ∷ []
+strip j i v = 0x03 ∷ 0x00 ∷ 0x09 ∷ j ∷ i ∷ 0x00 ∷ 0x00 ∷ 0x00 ∷ 0x07 ∷ 0x00 ∷ 0x00 ∷ v ∷ []
 
 -- A buffer of m bytes that is lent, with something in it.
 unfoldable pub lent : ℕ → List ℕ
@@ -145,7 +146,7 @@ lent m = replicate m 0xFF
 
 -- A rebuild from such a bundle.
 abbrev pub rebuilt : ℕ → List (List ℕ) → List ℕ
-rebuilt f fields = outcome (rebuildOf (profile 2) f (record { scenario = 7 }) (bundle f fields) (lent 2))
+rebuilt f fields = outcome (rebuildOf (profile 2) f (record { scenario = 7; run = 0 }) (bundle f fields) (lent 2))
 
 -- A survey of the profile with the coupling constant t.
 abbrev pub surveyed : ℕ → ℕ → ℕ → List ℕ

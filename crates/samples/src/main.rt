@@ -1,9 +1,10 @@
-// Runs document 01's samples and edges, and document 02's K4 and K10, and prints what each gives. The file `stdout` says
-// what the documents say; the marked cases are shown in specs/Marked.antt besides.
+// Runs document 01's samples and edges, and document 02's K2, K4 and K10, and prints what each gives. The file `stdout`
+// says what the documents say; the marked cases are shown in specs/Marked.antt besides.
 ghost use Prim.Native.Nat.{_≤_, _<_};
 use document::Answer;
 use document::Numbers;
 use document::Recording;
+use document::Refusal;
 use document::Surveyed;
 use gf256::Inverted;
 use libc::STDOUT_FILENO;
@@ -98,33 +99,47 @@ fn print_plan(lost: usize) {
     print_places(&places);
 }
 
-// The bundle of M4's array for a lost node, scenario 7.
-fn cut_sample(lost: usize, bundle: &mut [u8]) {
+// The bundle of M4's array for a lost node, scenario 7 and a run of it.
+fn cut_sample(lost: usize, run: u16, bundle: &mut [u8]) {
     let input = [0x01u8, 0x00, 0x02, 0x04];
     let mut array = [0u8; 8];
     encode_small(2, &input, &mut array);
     let p = numbers(4, 2, 2, 2, 1);
-    bundle::write_bundle(p, lost, Recording { scenario: 7 }, &array, bundle);
+    bundle::write_bundle(p, lost, Recording { scenario: 7, run }, &array, bundle);
 }
 
-// The answer of a rebuild of (4,2,2) from a bundle for scenario 7: the column, or the refusal's number.
-fn print_rebuilt(lost: usize, bundle: &[u8]) {
-    let p = numbers(4, 2, 2, 2, 1);
-    let mut column = [0xFFu8; 2];
-    let answer = rebuild::rebuild(p, lost, Recording { scenario: 7 }, bundle, &mut column);
-    match answer {
-        Answer::Done(_) => print_bytes(&column),
-        Answer::Refused(r) => {
-            print(b" is");
-            print_number(r.number());
+fn print_refusal(r: Refusal) {
+    print(b" is");
+    print_number(r.number());
+    match r {
+        Refusal::Stale(i) => {
+            print(b" at ");
+            io::print_decimal(STDOUT_FILENO, i as u64);
         }
+        _ => (),
     }
 }
 
-// M7, M8: the column of a lost node, from the bundle of M4's array.
+// The answer of a rebuild of (4,2,2) from a bundle for scenario 7, run 0: the column, or the refusal's number, and the
+// index where a strip is told.
+fn print_rebuilt(lost: usize, bundle: &[u8]) {
+    let p = numbers(4, 2, 2, 2, 1);
+    let mut column = [0xFFu8; 2];
+    let r = Recording {
+        scenario: 7,
+        run: 0,
+    };
+    let answer = rebuild::rebuild(p, lost, r, bundle, &mut column);
+    match answer {
+        Answer::Done(_) => print_bytes(&column),
+        Answer::Refused(refusal) => print_refusal(refusal),
+    }
+}
+
+// M7, M8: the column of a lost node, from the bundle of M4's array, which is of run 0.
 fn print_column(lost: usize) {
-    let mut bundle = [0xFFu8; 57];
-    cut_sample(lost, &mut bundle);
+    let mut bundle = [0xFFu8; 67];
+    cut_sample(lost, 0, &mut bundle);
     print_rebuilt(lost, &bundle);
 }
 
@@ -163,10 +178,7 @@ fn print_survey(t: usize, start: usize, most: usize) {
         }
         Surveyed::Done(looked) => print_looked(b" done, ", looked),
         Surveyed::Open(looked) => print_looked(b" open, ", looked),
-        Surveyed::Refused(r) => {
-            print(b" is");
-            print_number(r.number());
-        }
+        Surveyed::Refused(r) => print_refusal(r),
     }
     print(b"\n");
 }
@@ -185,28 +197,47 @@ fn print_surveys() {
     print_survey(2, 6, 0);
 }
 
-// The bundle and one byte more.
-fn longer(bundle: &[u8; 57]) -> [u8; 58] {
-    let mut long = [0u8; 58];
-    let mut i: usize = 0;
-    while i < 57 {
-        long[i] = bundle[i];
-        i += 1;
-    }
-    long
+// K2: the whole bundle of M4 for node 0, run 0, its first 66 bytes, and one byte more.
+fn print_bundle() {
+    let mut bundle = [0u8; 67];
+    cut_sample(0, 0, &mut bundle);
+    print(b"bundle, run 0");
+    print_bytes(&bundle);
+    print(b"\n66 bytes of it");
+    print_rebuilt(0, &bundle[0..66]);
+    print(b"\n68 bytes");
+    let mut long = [0u8; 68];
+    lists::put_bytes(&mut long, 0, &bundle);
+    print_rebuilt(0, &long);
+    print(b"\n");
 }
 
-// The whole bundle of M4 for node 0, its first 56 bytes, and one byte more.
-fn print_bundle() {
-    let mut bundle = [0u8; 57];
-    cut_sample(0, &mut bundle);
-    print(b"bundle");
-    print_bytes(&bundle);
-    print(b"\n56 bytes of it");
-    print_rebuilt(0, &bundle[0..56]);
-    print(b"\n58 bytes");
-    let long = longer(&bundle);
-    print_rebuilt(0, &long);
+// K2: document 01's own bundle of M4, without a run.
+fn print_old_bundle() {
+    let head = b"\x01\x00\x06\x04\x02\x02\x02\x00\x01\x02\x00\x05\x00\x00\x00\x00\x07";
+    let first = b"\x03\x00\x07\x01\x00\x00\x00\x00\x07\x02\x03\x00\x07\x02\x00\x00\x00\x00\x07\x07";
+    let last = b"\x03\x00\x07\x03\x00\x00\x00\x00\x07\x0C\x03\x00\x07\x02\x01\x00\x00\x00\x07\x00";
+    let mut old = [0u8; 57];
+    lists::put_bytes(&mut old, 0, head);
+    lists::put_bytes(&mut old, 17, first);
+    lists::put_bytes(&mut old, 37, last);
+    print(b"the old bundle");
+    print_rebuilt(0, &old);
+    print(b"\n");
+}
+
+// K2: the bundles of runs 0 and 1 mixed strip by strip, the second and the fourth of run 1.
+fn print_mixed() {
+    let mut bundle = [0u8; 67];
+    let mut other = [0u8; 67];
+    cut_sample(0, 0, &mut bundle);
+    cut_sample(0, 1, &mut other);
+    lists::put_bytes(&mut bundle, 31, &other[31..43]);
+    lists::put_bytes(&mut bundle, 55, &other[55..67]);
+    print(b"with strips of run 1");
+    print_rebuilt(0, &bundle);
+    print(b"\nthe bundle of run 1");
+    print_rebuilt(0, &other);
     print(b"\n");
 }
 
@@ -236,10 +267,7 @@ fn print_edge(name: &[u8], p: Numbers, size: usize, room: usize)
     let answer = encode::encode(p, &input[..size], &mut array[..room]);
     match answer {
         Answer::Done(_) => print(b" passes"),
-        Answer::Refused(r) => {
-            print(b" is");
-            print_number(r.number());
-        }
+        Answer::Refused(r) => print_refusal(r),
     }
     print(b"\n");
 }
@@ -315,6 +343,8 @@ fn main() {
     print_products();
     print_inverse_of_zero();
     print_bundle();
+    print_old_bundle();
+    print_mixed();
     print_edges();
     print_prices();
 }

@@ -69,15 +69,16 @@ pub extern "C" fn whaupfield_write_bundle(
     s: usize,
     lost: usize,
     scenario: u32,
+    run: u16,
     array: &[u8],
     bundle: &mut [u8],
 ) -> u64
     ensures { λ r. ⌜ (r, now (bundle .exit)) ≡ packedWith (writeOf
-        (record { n = n; k = k; a = a; t = t; s = s }) lost (record { scenario = scenario })
+        (record { n = n; k = k; a = a; t = t; s = s }) lost (record { scenario = scenario; run = run })
         (now (array .entry)) (now (bundle .entry))) ⌝ }
 {
     let p = Numbers { n, k, a, t, s };
-    pack(bundle::write_bundle(p, lost, Recording { scenario }, array, bundle))
+    pack(bundle::write_bundle(p, lost, Recording { scenario, run }, array, bundle))
 }
 
 #[no_mangle]
@@ -89,15 +90,16 @@ pub extern "C" fn whaupfield_rebuild(
     s: usize,
     lost: usize,
     scenario: u32,
+    run: u16,
     bundle: &[u8],
     column: &mut [u8],
 ) -> u64
     ensures { λ r. ⌜ (r, now (column .exit)) ≡ packedWith (rebuildOf
-        (record { n = n; k = k; a = a; t = t; s = s }) lost (record { scenario = scenario })
+        (record { n = n; k = k; a = a; t = t; s = s }) lost (record { scenario = scenario; run = run })
         (now (bundle .entry)) (now (column .entry))) ⌝ }
 {
     let p = Numbers { n, k, a, t, s };
-    pack(rebuild::rebuild(p, lost, Recording { scenario }, bundle, column))
+    pack(rebuild::rebuild(p, lost, Recording { scenario, run }, bundle, column))
 }
 
 #[no_mangle]

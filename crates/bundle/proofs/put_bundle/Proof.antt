@@ -8,7 +8,7 @@ use Rattle.lists.proofs.Put.{wrote-same}
 use Rattle.document.specs.declared.Place.{Place}
 use Rattle.document.specs.Encoding.{stripOf}
 use Rattle.document.specs.Message.{messageLength, messageOf}
-use Rattle.document.specs.Bundle.{bundleOf}
+use Rattle.document.specs.Bundle.{lostContentLength, bundleOf}
 use Rattle.document.proofs.Bundle.{lost-length}
 use Rattle.bundle.proofs.Planned.{
   bytes-bound,
@@ -45,7 +45,7 @@ put-message-requires : tie.Need-put-message-requires
 put-message-requires c κs =
     let w = c .before .before .before .before in
     let s = start w in
-    let content : length (w .before .before .lost-content .result) ≡ 5 =
+    let content : length (w .before .before .lost-content .result) ≡ lostContentLength =
     ap length (w .before .before .lost-content .ensures) ∙ lost-length (s .args .f) (s .args .r) in (
       (
         s .pre .0,

@@ -1,15 +1,13 @@
 -- `message::put_recording` meets its contract.
 use borrow.Author.Needs.{needs}
 use Rattle.lists.proofs.Put.{wrote-same}
-use Rattle.document.specs.Message.{recordingBytes}
 use Rattle.message.proofs.put_recording.Statement.{statement}
 use Rattle.message.proofs.put_recording.Tie as tie
 
 returns : tie.Need-returns
-unfolding recordingBytes
 returns c =
     let w = c .before .before in
-    wrote-same (w .before .before .before .four-bytes .ensures) (w .put-bytes .ensures)
+    wrote-same (w .before .before .before .bytes .ensures) (w .put-bytes .ensures)
 
 pub put-recording-spec : {M : Type 1} → statement M
 put-recording-spec =

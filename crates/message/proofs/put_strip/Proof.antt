@@ -9,7 +9,7 @@ use Rattle.lists.proofs.Put.{wrote-then, wrote-same}
 use Rattle.fields.specs.Fields.{twoBytes, opening, fieldOf}
 use Rattle.document.specs.declared.Place.{Place}
 use Rattle.document.specs.declared.Recording.{Recording}
-use Rattle.document.specs.Message.{recordingBytes, stripContent, stripContentLength}
+use Rattle.document.specs.Message.{recordingBytes, stripContent, stripContentLength, stripOffset}
 use Rattle.document.proofs.Message.{recording-length, content-length}
 use Rattle.message.proofs.put_strip.Statement.{statement}
 use Rattle.message.proofs.put_strip.Tie as tie
@@ -51,7 +51,7 @@ module _ (c : tie.After-put-recording) where
   abbrev start-3 : tie.Start
   start-3 = start-1 (opening-2 bytes-3)
 
-  after-recording : (c .put-recording .result ≡ start-3 .args .at + 9)
+  after-recording : (c .put-recording .result ≡ start-3 .args .at + stripOffset)
       × (length (c .put-recording .last .0) ≡ length (start-3 .args .out .now))
   after-recording =
       let b = after-place bytes-3 in (

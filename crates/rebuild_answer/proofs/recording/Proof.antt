@@ -1,4 +1,4 @@
--- `rebuild_answer::recording` meets its contract: four bytes, high byte first.
+-- `rebuild_answer::recording` meets its contract: four bytes and two, high byte first.
 use Rattle.document.specs.Program.{wantedRecording}
 use borrow.Author.Needs.{needs}
 use Rattle.rebuild_answer.proofs.recording.Statement.{statement}
@@ -7,8 +7,16 @@ use Rattle.rebuild_answer.proofs.recording.Tie as tie
 returns : tie.Need-returns
 unfolding wantedRecording
 returns c =
-    let b = c .before .before in
-    simp (b .before .byte-in .ensures, b .byte-in2 .ensures, c .before .byte-in3 .ensures, c .byte-in4 .ensures)
+    let t = c .before .before in
+    let b = t .before .before in
+    simp (
+      b .before .byte-in .ensures,
+      b .byte-in2 .ensures,
+      t .before .byte-in3 .ensures,
+      t .byte-in4 .ensures,
+      c .before .byte-in5 .ensures,
+      c .byte-in6 .ensures,
+    )
 
 pub recording-spec : {M : Type 1} → statement M
 recording-spec =
@@ -21,6 +29,12 @@ recording-spec =
     (λ c κs. search needs)
     (λ c. search needs)
     (λ c κs. search needs)
+    (λ c. search needs)
+    (λ c κs. search needs)
+    (λ c. search needs)
+    (λ c κs. search needs)
+    (λ c. search needs)
+    (λ c. search needs)
     (λ c. search needs)
     (λ c. search needs)
     (λ c. search needs)

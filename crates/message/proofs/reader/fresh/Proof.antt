@@ -6,7 +6,7 @@ use Rattle.message.proofs.reader.fresh.Statement.{statement}
 use Rattle.message.proofs.reader.fresh.Tie as tie
 
 returns : tie.Need-returns
-returns c = c .same-at .ensures ∙ fresh-is _ _ _ (c .before .before .four-bytes .ensures)
+returns c = c .same-at .ensures ∙ fresh-is _ _ _ (c .before .before .bytes .ensures)
 
 pub fresh-spec : {M : Type 1} → statement M
 fresh-spec =
