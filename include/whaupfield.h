@@ -1,4 +1,4 @@
-/* The array store's functions for a C host. Version 0.2.0, before the first release: names, parameters and answers may
+/* The array store's functions for a C host. Version 0.3.0, before the first release: names, parameters and answers may
  * change, and docs/changes has a page for each request that changed some.
  *
  * Every function takes plain numbers and buffers that the caller owns. A buffer is a pointer and, after it, its length
@@ -9,14 +9,18 @@
  * A function answers any numbers and any bytes. After a refusal every lent byte is what it was.
  *
  * Numbers are size_t, so that none is cut down on its way: t = 258 is refused and not taken for 2. A scenario is a
- * uint32_t, and a number in a node list a byte: there C cuts a wider number down, without a warning unless the compiler
- * is asked for one (-Wconversion), and the call cannot see it. Compare a wider scenario with UINT32_MAX first.
+ * uint32_t, a run a uint16_t, and a number in a node list a byte: there C cuts a wider number down, without a warning
+ * unless the compiler is asked for one (-Wconversion), and the call cannot see it. Compare a wider scenario with
+ * UINT32_MAX first, and a wider run, or one that is counted up, with UINT16_MAX: run 65536 would be taken for run 0.
  *
  * A profile is n (nodes), k (data nodes), a (rows), t (coupling constant), s (strip length in bytes). Nodes and rows
  * count from 0. In memory the strip of row i, node j starts at (j*a + i) * s, so a node's column is its a strips, row 0
- * first; data use the same order with j < k. One call is about one array. A recording of more data than an array holds
- * is many arrays, and nothing in a bundle tells two arrays of one recording, or two runs of one scenario, apart: the
- * host keeps them apart.
+ * first; data use the same order with j < k.
+ *
+ * A recording is a scenario and a run of it: two runs of one scenario are two recordings, and their strips do not pass
+ * together. The host gives each run a number of its own. One call is about one array. A recording of more data than an
+ * array holds is many arrays, and nothing in a bundle tells two arrays of one recording apart: the host keeps them
+ * apart.
  *
  * Answers, the same for every call that takes a profile: WHAUPFIELD_NUMBER is 0 on success, otherwise the number of the
  * refusal; WHAUPFIELD_VALUE is what comes with it. On success each call below says what that is. With
@@ -26,9 +30,11 @@
  *
  * A bundle is fields of a one-byte tag, a two-byte length and content, all numbers high byte first:
  *   01 00 06  n, k, a, t, s in two bytes
- *   02 00 05  lost node, scenario in four bytes
- *   03 and the length 6 + s, once for each place of the plan, in its order: node, row, scenario in four bytes, strip
- * A host that fetches the planned strips itself can put one together.
+ *   02 00 07  lost node, scenario in four bytes, run in two
+ *   03 and the length 8 + s, once for each place of the plan, in its order: node, row, scenario in four bytes, run in
+ *             two, strip
+ * A host that fetches the planned strips itself can put one together. Up to version 0.2.0 a bundle had no run: such a
+ * bundle is refused with 6.
  *
  * Stack, as measured: reading back takes up to 70 KB, a survey 22 KB, a rebuild 16 KB, encoding 5 KB, the other calls
  * less than 1 KB. A stack that is too small ends in a fault and not in a refusal.
@@ -40,9 +46,9 @@
 #include <stdint.h>
 
 #define WHAUPFIELD_VERSION_MAJOR 0
-#define WHAUPFIELD_VERSION_MINOR 2
+#define WHAUPFIELD_VERSION_MINOR 3
 #define WHAUPFIELD_VERSION_PATCH 0
-#define WHAUPFIELD_VERSION "0.2.0"
+#define WHAUPFIELD_VERSION "0.3.0"
 
 #define WHAUPFIELD_NUMBER(answer) ((unsigned)((uint64_t)(answer) & 0xFF))
 #define WHAUPFIELD_VALUE(answer) ((uint64_t)(answer) >> 8)
@@ -109,7 +115,7 @@ static inline const char *whaupfield_refusal_sentence(unsigned number)
         return "the bundle's total length, tags or field lengths are not those of the wanted profile and node";
     case WHAUPFIELD_HEAD: return "the content of the bundle's field 01 or 02 is not what is wanted";
     case WHAUPFIELD_MISPLACED: return "a strip's place is not the plan's";
-    case WHAUPFIELD_STALE: return "a strip's scenario is not the wanted one";
+    case WHAUPFIELD_STALE: return "a strip's scenario or run is not the wanted one";
     case WHAUPFIELD_AMBIGUOUS:
         return "some two different data give equal columns on the named nodes, whatever bytes the columns hold";
     default: return "no refusal has this number";
@@ -125,7 +131,7 @@ static inline const char *whaupfield_refusal_sentence(unsigned number)
 #define WHAUPFIELD_MAX_DATA ((WHAUPFIELD_MAX_NODES - WHAUPFIELD_MAX_ROWS) * WHAUPFIELD_MAX_COLUMN)
 #define WHAUPFIELD_MAX_ARRAY (WHAUPFIELD_MAX_NODES * WHAUPFIELD_MAX_COLUMN)
 #define WHAUPFIELD_MAX_PLAN (2 * WHAUPFIELD_MAX_PLACES)
-#define WHAUPFIELD_MAX_BUNDLE (17 + WHAUPFIELD_MAX_PLACES * (9 + WHAUPFIELD_MAX_STRIP))
+#define WHAUPFIELD_MAX_BUNDLE (19 + WHAUPFIELD_MAX_PLACES * (11 + WHAUPFIELD_MAX_STRIP))
 
 /* A profile's numbers, and how they are handed to a call: whaupfield_plan(WHAUPFIELD_PROFILE(p), ..). The macro names p
  * once for each number. A number that a later version adds to a profile is added in these two places, and a call that
@@ -173,7 +179,7 @@ static inline size_t whaupfield_plan_length(struct whaupfield_profile p)
 
 static inline size_t whaupfield_bundle_length(struct whaupfield_profile p)
 {
-    return 17 + whaupfield_places(p) * (9 + p.s);
+    return 19 + whaupfield_places(p) * (11 + p.s);
 }
 
 #ifdef __cplusplus
@@ -193,16 +199,18 @@ uint64_t whaupfield_plan(size_t n, size_t k, size_t a, size_t t, size_t s, size_
                          uint8_t *places, size_t places_length);
 
 /* Write bundle: writes to bundle the bundle for rebuilding the lost node, cut from a stored array, with this scenario
- * number in field 02 and in every strip's field. Both buffers have exactly their profile's length. Only the planned
+ * and run in field 02 and in every strip's field. Both buffers have exactly their profile's length. Only the planned
  * places are read, so the lost column may hold anything. Value: the bundle's length. Refused with 1, 2, 3, 4 or 5. */
-uint64_t whaupfield_write_bundle(size_t n, size_t k, size_t a, size_t t, size_t s, size_t lost, uint32_t scenario,
+uint64_t whaupfield_write_bundle(size_t n, size_t k, size_t a, size_t t, size_t s, size_t lost,
+                                 uint32_t scenario, uint16_t run,
                                  const uint8_t *array, size_t array_length,
                                  uint8_t *bundle, size_t bundle_length);
 
-/* Rebuild: writes to column the lost node's column, row 0 first, from a bundle for the wanted profile, node and
- * scenario. The bundle may be any bytes of any length: one that is not in order is 6, 7, 8 or 9, never 5. A buffer of
+/* Rebuild: writes to column the lost node's column, row 0 first, from a bundle for the wanted profile, node, scenario
+ * and run. The bundle may be any bytes of any length: one that is not in order is 6, 7, 8 or 9, never 5. A buffer of
  * another length than a column's is 5. Value 0. Refused with 1 to 9. Other libraries call it reconstruct. */
-uint64_t whaupfield_rebuild(size_t n, size_t k, size_t a, size_t t, size_t s, size_t lost, uint32_t scenario,
+uint64_t whaupfield_rebuild(size_t n, size_t k, size_t a, size_t t, size_t s, size_t lost,
+                            uint32_t scenario, uint16_t run,
                             const uint8_t *bundle, size_t bundle_length,
                             uint8_t *column, size_t column_length);
 
