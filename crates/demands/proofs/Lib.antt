@@ -8,6 +8,7 @@ pub mod Message
 pub mod Whole
 pub mod Bundle
 pub mod Rebuild
+pub mod Recordings
 pub mod Reading
 pub mod Results
 pub mod Survey

@@ -88,7 +88,7 @@ module _ (p : Profile) (m : ℕ) where
     abbrev at : ℕ
     at = stripFieldStart p m i
 
-    place-is : placeIn b at ≡ placeRead b (fieldStart p m i)
+    pub place-is : placeIn b at ≡ placeRead b (fieldStart p m i)
     unfolding placeIn
     place-is =
         let e : at + 3 + 1 ≡ fieldStart p m i + 4 = omega (arith, field-is i) in

@@ -93,6 +93,15 @@ pub unheld : (table : List Sentence) → ((r : Refusal) → Holds table r → �
 unheld [] n = no-line
 unheld (s ∷ table) n = and-line (λ h. n (s .refusal) (this h)) (unheld table (λ r h. n r (next h)))
 
+pub first-listed : (n : ℕ) (s : ℕ → Sentence) (i : ℕ) → i < n → ((e : ℕ) → e < i → s e .says → ⊥) → s i .says
+    → FirstOf (listed n s) (s i .refusal)
+unfolding listed
+first-listed zero s i l before h = absurd (not-suc-le-zero l)
+first-listed (suc n) s zero l before h = here h
+first-listed (suc n) s (suc i) l before h =
+    later (before 0 (zero-lt-suc i))
+    (first-listed n (λ e. s (suc e)) i (omega arith) (λ e m. before (suc e) (suc-le-suc m)) h)
+
 -- the first of lines before which none holds
 pub first-past : {a b : List Sentence} {r : Refusal} → NoneHolds a → FirstOf b r → FirstOf (a ++ b) r
 first-past no-line f = f

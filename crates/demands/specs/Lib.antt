@@ -6,6 +6,7 @@ pub mod Strips
 pub mod Message
 pub mod Bundle
 pub mod Rebuild
+pub mod Recordings
 pub mod Reading
 pub mod Survey
 pub mod Program

@@ -1,0 +1,213 @@
+-- What K2 rules out: strips of two recordings in one rebuild, and bundles of the old form.
+use mathlib.Core.Path.{_≡_, sym, ap, ap₂, _∙_}
+use mathlib.Core.Logic.{_≢_, _⊎_, inl, inr}
+use mathlib.Core.List.{List, [], _∷_}
+use Prim.Native.Nat.{ℕ, _+_, _*_, _≤_, _<_}
+use native.Mathlib.Nat.{add-zero, mul-le-mul}
+use native.Mathlib.Omega.{arith}
+use lib.ListN.{length, getD}
+use Rattle.lists.specs.Put.{slice}
+use Rattle.lists.specs.Listed.{listed}
+use Rattle.lists.proofs.Slice.{slice-at, slice-part}
+use Rattle.fields.specs.Fields.{twoBytes, fourBytes}
+use Rattle.document.specs.declared.Numbers.{Numbers}
+use Rattle.document.specs.declared.Profile.{Profile}
+use Rattle.document.specs.declared.Node.{Node}
+use Rattle.document.specs.declared.Place.{Place}
+use Rattle.document.specs.declared.Recording.{Recording}
+use Rattle.document.specs.declared.Refusal.the-variants.{Form, Stale}
+use Rattle.document.specs.declared.Answer.{Answer}
+use Rattle.document.specs.declared.Answer.the-variants.{Refused}
+use Rattle.document.specs.Refusals.{answerNumber}
+use Rattle.document.specs.Profile.{Accepted, profileOf}
+use Rattle.document.specs.Places.{place, placeAt}
+use Rattle.document.specs.Plan.{planned}
+use Rattle.document.specs.Message.{recordingBytes}
+use Rattle.document.specs.Bundle.{lostContent}
+use Rattle.document.specs.Rebuild.{rebuildOf}
+use Rattle.document.proofs.Bounds.{room}
+use Rattle.demands.specs.Tables.{FirstOf}
+use Rattle.demands.specs.Message.{Formed, Headed, placeRead, OfRecording, stripSentences, messageSentences}
+use Rattle.demands.specs.Bundle.{bundleSentences, CutFrom}
+use Rattle.demands.specs.Rebuild.{rebuildSentences, InSixBytes}
+use Rattle.demands.specs.Recordings.{PutTogether, MixedRefused, TogetherPasses, OldBundle, OldRefused}
+use Rattle.demands.proofs.Tables.{in-order, NoneHolds, first-listed, first-past, only-listed, line-by-line}
+use Rattle.demands.proofs.Message.{AsWanted, wanted-none, place-is, numbers-read, recording-read}
+use Rattle.demands.proofs.Whole.{same-recording}
+use Rattle.demands.proofs.Bundle.{cut-accepted, cut-below, cut-wanted}
+use Rattle.demands.proofs.Rebuild.{rebuild-call}
+
+module _ (p : Numbers) (f : ℕ) where
+  abbrev wanted : Profile
+  wanted = profileOf p
+
+  abbrev node : Node
+  node = record { 0 = f }
+
+  abbrev plan : List Place
+  plan = planned wanted node
+
+  abbrev P : ℕ
+  P = length plan
+
+  -- the length of a field 03, and where that of strip i starts
+  abbrev width : ℕ
+  width = 11 + p .s
+
+  abbrev at : ℕ → ℕ
+  at i = 19 + i * width
+
+  -- ---- a part of a bundle that was cut
+  module _ (x : List ℕ) (r : Recording) (c : List ℕ) (cut : CutFrom p f x r c) where
+    as-wanted : AsWanted wanted (lostContent node r) r plan c
+    as-wanted = cut-wanted p f x r c cut
+
+    whole : length c ≡ 19 + P * width
+    unfolding lostContent recordingBytes fourBytes twoBytes
+    whole = as-wanted .is-formed .total
+
+    module _ (b : List ℕ) where
+      -- its head
+      module _ (same : slice b 0 19 ≡ slice c 0 19) where
+        head-part : (o m : ℕ) → o + m ≤ 19 → slice b (0 + o) m ≡ slice c (0 + o) m
+        head-part o m l = slice-part b c 0 19 o m (omega (arith, whole)) l same
+
+        head-headed : Headed wanted 7 (lostContent node r) b
+        unfolding lostContent recordingBytes fourBytes twoBytes
+        head-headed = record {
+          field-01 = head-part 3 6 (omega arith) ∙ as-wanted .is-headed .field-01;
+          field-02 = head-part 12 7 (omega arith) ∙ as-wanted .is-headed .field-02;
+        }
+
+        first-opening : slice b 0 3 ≡ 1 ∷ 0 ∷ 6 ∷ []
+        first-opening = head-part 0 3 (omega arith) ∙ as-wanted .is-formed .field-01
+
+        second-opening : slice b 9 3 ≡ 2 ∷ twoBytes 7
+        unfolding lostContent recordingBytes fourBytes twoBytes
+        second-opening = head-part 9 3 (omega arith) ∙ as-wanted .is-formed .field-02
+
+      -- the field 03 of a strip
+      module _ (i : ℕ) (l : i < P) (same : slice b (at i) width ≡ slice c (at i) width) where
+        part : (o m : ℕ) → o + m ≤ width → slice b (at i + o) m ≡ slice c (at i + o) m
+        part o m fits = slice-part b c (at i) width o m (omega (arith, whole, room i P width l)) fits same
+
+        entry : (o : ℕ) → o < width → getD b (at i + o) 0 ≡ getD c (at i + o) 0
+        entry o m =
+            sym (slice-at b (at i) width o m) ∙ ap (λ (v : List ℕ). getD v o 0) same ∙ slice-at c (at i) width o m
+
+        strip-opening : slice b (at i) 3 ≡ 3 ∷ twoBytes (8 + p .s)
+        unfolding lostContent recordingBytes fourBytes twoBytes
+        strip-opening =
+            ap (λ (u : ℕ). slice b u 3) (sym (add-zero (at i)))
+            ∙ part 0 3 (omega arith)
+            ∙ ap (λ (u : ℕ). slice c u 3) (add-zero (at i))
+            ∙ as-wanted .is-formed .fields-03 i l
+
+        strip-place : placeRead b (at i) ≡ placeAt plan i
+        unfolding lostContent recordingBytes fourBytes twoBytes
+        strip-place =
+            ap₂ place (entry 3 (omega arith)) (entry 4 (omega arith))
+            ∙ sym (place-is wanted 7 c i)
+            ∙ as-wanted .is-placed i l
+
+        strip-recording : OfRecording r b (at i)
+        unfolding lostContent recordingBytes fourBytes twoBytes
+        strip-recording =
+            let there : OfRecording r c (at i) = numbers-read wanted 7 c i r (as-wanted .is-fresh i l) in
+            record {
+              scenario = part 5 4 (omega arith) ∙ there .scenario;
+              run = part 9 2 (omega arith) ∙ there .run;
+            }
+
+  -- ---- a bundle put together
+  module _ (r : Recording) (of : ℕ → Recording) (b y : List ℕ) (made : PutTogether p f r of b)
+      (size : length y ≡ p .a * p .s) where
+    open PutTogether made using (head)
+
+    accepted : Accepted wanted
+    accepted = cut-accepted p f (head .0) r (head .1) (head .2)
+
+    below : f < p .n
+    below = cut-below p f (head .0) r (head .1) (head .2)
+
+    formed : Formed wanted 7 P b
+    formed = record {
+      total = made .size;
+      field-01 = first-opening (head .0) r (head .1) (head .2) b (head .3);
+      field-02 = second-opening (head .0) r (head .1) (head .2) b (head .3);
+      fields-03 = λ i l. let s = made .strips i l in strip-opening (s .0) (of i) (s .1) (s .2) b i l (s .3);
+    }
+
+    headed : Headed wanted 7 (lostContent node r) b
+    headed = head-headed (head .0) r (head .1) (head .2) b (head .3)
+
+    placed : (i : ℕ) → i < P → placeRead b (at i) ≡ placeAt plan i
+    placed i l = let s = made .strips i l in strip-place (s .0) (of i) (s .1) (s .2) b i l (s .3)
+
+    recorded : (i : ℕ) → i < P → OfRecording (of i) b (at i)
+    recorded i l = let s = made .strips i l in strip-recording (s .0) (of i) (s .1) (s .2) b i l (s .3)
+
+    -- the first strip of another recording
+    module _ (i : ℕ) (l : i < P) (before : (e : ℕ) → e < i → of e ≡ r) (other : of i ≢ r) (fits : InSixBytes r)
+        (fits-too : InSixBytes (of i)) where
+      foreign : OfRecording r b (at i) → ⊥
+      foreign o =
+          other
+          (same-recording (of i) r fits-too fits
+          (sym (recording-read wanted 7 b i (of i) (recorded i l)) ∙ recording-read wanted 7 b i r o))
+
+      stale-strip : FirstOf (stripSentences wanted 7 r plan b) (Stale i)
+      unfolding stripSentences
+      stale-strip =
+          first-past (only-listed P _ (λ e m n. n (placed e m)))
+          (first-listed P _ i l (λ e m n. n (rw (← before e m) (recorded e (omega arith)))) foreign)
+
+      stale-first : FirstOf (rebuildSentences wanted node r b y) (Stale i)
+      unfolding rebuildSentences bundleSentences messageSentences lostContent recordingBytes
+      stale-first = search (in-order, below, size, formed, headed, stale-strip) depth 20
+
+      is-refused : rebuildOf p f r b y ≡ (Refused (Stale i), y)
+      is-refused = rebuild-call p f r b y .stops accepted stale-first
+
+    -- all strips of the wanted recording
+    module _ (one : (i : ℕ) → i < P → of i ≡ r) where
+      is-wanted : AsWanted wanted (lostContent node r) r plan b
+      unfolding lostContent recordingBytes fourBytes twoBytes
+      is-wanted = record {
+        is-formed = formed;
+        is-headed = headed;
+        is-placed = λ i l. place-is wanted 7 b i ∙ placed i l;
+        is-fresh = λ i l. recording-read wanted 7 b i r (rw (← one i l) (recorded i l));
+      }
+
+      passes : answerNumber (rebuildOf p f r b y .0) ≡ 0
+      unfolding rebuildSentences bundleSentences lostContent recordingBytes fourBytes twoBytes answerNumber
+      passes =
+          let read : NoneHolds (bundleSentences wanted node r b) =
+          wanted-none wanted (lostContent node r) r plan b is-wanted in
+          ap (λ (o : Answer × List ℕ). answerNumber (o .0))
+          (rebuild-call p f r b y .through accepted (search (line-by-line, below, size)))
+
+  pub mixed-refused : MixedRefused p f
+  mixed-refused r of b y made size i l before other fits fits-too =
+      is-refused r of b y made size i l before other fits fits-too
+
+  pub together-passes : TogetherPasses p f
+  together-passes r of b y made size one = passes r of b y made size one
+
+  -- ---- a bundle of the old form
+  old-unformed : (b : List ℕ) → OldBundle p f b → Formed wanted 7 P b → ⊥
+  unfolding twoBytes
+  old-unformed b (inl total) w =
+      let less : P * (9 + p .s) ≤ P * width =
+      mul-le-mul {n₁ = P} {m₁ = 9 + p .s} {n₂ = P} {m₂ = width} (omega arith) (omega arith) in
+      omega (arith, w .total)
+  old-unformed b (inr opens) w =
+      let five : _≡_ {A = ℕ} 5 7 = ap (λ (v : List ℕ). getD v 2 0) (sym opens ∙ w .field-02) in
+      omega arith
+
+  pub old-refused : OldRefused p f
+  unfolding rebuildSentences bundleSentences messageSentences
+  old-refused acc below r b y size old =
+      rebuild-call p f r b y .stops acc
+      (search (in-order, below, size, old-unformed b old))

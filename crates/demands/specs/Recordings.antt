@@ -1,0 +1,66 @@
+-- What K2 rules out: 'Document 01 lets strips pass together if their scenario matches. We ran scenario 212 twice in one
+-- afternoon, and a rebuild mixed the two.'
+--
+-- PutTogether r of b : b is put together from bundles cut for the wanted numbers and node: its head is that of one for
+--                      the recording r, its strip i with all its field that of one for the recording `of i`
+-- MixedRefused       : such a bundle is refused with 9 at the first strip of another recording      mixed-refused
+-- TogetherPasses     : it is not refused where all strips are of the wanted recording               together-passes
+-- OldBundle b        : b has the length of a bundle of document 01 for what is wanted, or a field 02 as such bundles
+--                      have it
+-- OldRefused         : past 1 to 5 it is refused with 6                                             old-refused
+-- Shown in proofs/Recordings.antt, under the name beside each.
+--
+-- In all of them p are the wanted numbers, f is the wanted node, r the wanted recording, b a bundle, y what the buffer
+-- lent for the column holds.
+use mathlib.Core.Path.{_≡_}
+use mathlib.Core.Logic.{_≢_, _⊎_}
+use mathlib.Core.List.{List, [], _∷_}
+use Prim.Native.Nat.{ℕ, _+_, _*_, _<_}
+use lib.ListN.{length}
+use Rattle.lists.specs.Put.{slice}
+use Rattle.document.specs.declared.Numbers.{Numbers}
+use Rattle.document.specs.declared.Place.{Place}
+use Rattle.document.specs.declared.Recording.{Recording}
+use Rattle.document.specs.declared.Refusal.the-variants.{Form, Stale}
+use Rattle.document.specs.declared.Answer.the-variants.{Refused}
+use Rattle.document.specs.Profile.{Accepted, profileOf}
+use Rattle.document.specs.Plan.{planned}
+use Rattle.document.specs.Rebuild.{rebuildOf}
+use Rattle.demands.specs.Bundle.{CutFrom}
+use Rattle.demands.specs.Rebuild.{NotRefused, InSixBytes}
+
+module _ (p : Numbers) (f : ℕ) where
+  abbrev plan : List Place
+  plan = planned (profileOf p) (record { 0 = f })
+
+  -- 'A bundle 19 + P(11+S)': the head takes 19 bytes, each field 03 takes 11+S.
+  pub record PutTogether (r : Recording) (of : ℕ → Recording) (b : List ℕ) : Type 0 where
+    pub size : length b ≡ 19 + length plan * (11 + p .s)
+    pub head : (x c : List ℕ) × CutFrom p f x r c × (slice b 0 19 ≡ slice c 0 19)
+    pub strips : (i : ℕ) → i < length plan
+        → (x c : List ℕ) × CutFrom p f x (of i) c
+        × (slice b (19 + i * (11 + p .s)) (11 + p .s) ≡ slice c (19 + i * (11 + p .s)) (11 + p .s))
+
+  -- The bundles may be cut from any stored arrays, and the strips be of as many recordings as there are.
+  abbrev pub MixedRefused : Type 0
+  MixedRefused =
+      (r : Recording) (of : ℕ → Recording) (b y : List ℕ) → PutTogether r of b → length y ≡ p .a * p .s
+      → (i : ℕ) → i < length plan → ((e : ℕ) → e < i → of e ≡ r) → of i ≢ r → InSixBytes r → InSixBytes (of i)
+      → rebuildOf p f r b y ≡ (Refused (Stale i), y)
+
+  abbrev pub TogetherPasses : Type 0
+  TogetherPasses =
+      (r : Recording) (of : ℕ → Recording) (b y : List ℕ) → PutTogether r of b → length y ≡ p .a * p .s
+      → ((i : ℕ) → i < length plan → of i ≡ r) → NotRefused p f r b y
+
+  -- 'old bundles get 6'. Of document 01: 'Length: 17 + P(9+S)', '02, length 5', where field 02 starts at 9. The length
+  -- is that of an old bundle for the wanted profile and node. The opening of field 02 is that of every old bundle, also
+  -- of one for another profile that has the length of a new one.
+  abbrev pub OldBundle : List ℕ → Type 0
+  OldBundle b = (length b ≡ 17 + length plan * (9 + p .s)) ⊎ (slice b 9 3 ≡ 2 ∷ 0 ∷ 5 ∷ [])
+
+  -- Past 1 to 5: the profile is accepted, the node is one of it, and the column has its AS bytes.
+  abbrev pub OldRefused : Type 0
+  OldRefused =
+      Accepted (profileOf p) → f < p .n → (r : Recording) (b y : List ℕ) → length y ≡ p .a * p .s → OldBundle b
+      → rebuildOf p f r b y ≡ (Refused Form, y)
