@@ -109,13 +109,14 @@ module _ (p : Profile) (m : ℕ) where
       unfolding recordingBytes fourBytes
       numbers-read e =
           let both = slice-split b _ 4 2 (fourBytes (r .scenario)) (twoBytes (r .run)) refl (sym recording-is ∙ e) in
-          record { scenario = both .0; run = rw (← run-at) (both .1) }
+          record { scenario = both .0; run = ap (λ (u : ℕ). slice b u 2) (sym run-at) ∙ both .1 }
 
       pub recording-read : OfRecording r b (fieldStart p m i) → recordingIn b at ≡ recordingBytes r
       unfolding recordingBytes
       recording-read o =
           recording-is
-          ∙ slice-joined b _ 4 2 (fourBytes (r .scenario)) (twoBytes (r .run)) (o .scenario) (rw run-at (o .run))
+          ∙ slice-joined b _ 4 2 (fourBytes (r .scenario)) (twoBytes (r .run)) (o .scenario)
+          (ap (λ (u : ℕ). slice b u 2) run-at ∙ o .run)
 
     pub opening-is : slice b at 3 ≡ slice b (fieldStart p m i) 3
     opening-is = ap (λ (u : ℕ). slice b u 3) (field-is i)
