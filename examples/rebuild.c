@@ -1,7 +1,6 @@
-/* Encodes document 01's sample recording with (n, k, A) = (4, 2, 2), t = 2, S = 1, loses node 0, cuts a bundle for
- * scenario 7, prints its strips beside the plan and rebuilds the column from it; then shows what that bundle gets
- * where scenario 8 is wanted, and what a bundle of scenario 8 gets whose first strip was filled in from the last
- * download. */
+/* Encodes document 01's sample data with (n, k, A) = (4, 2, 2), t = 2, S = 1, loses node 0, cuts a bundle for run 1 of
+ * scenario 212, prints its strips beside the plan and rebuilds the column from it; then shows what that bundle gets
+ * where run 2 is wanted, and what a bundle of run 2 gets whose second strip was filled in from the last download. */
 #include <stdio.h>
 #include <stdlib.h>
 #include <string.h>
@@ -9,7 +8,7 @@
 #include "whaupfield.h"
 
 /* In a bundle of this profile the first strip's field starts at HEAD, and each has FIELD bytes, its strip last. */
-enum { LOST = 0, HEAD = 17, S = 1, FIELD = 9 + S };
+enum { LOST = 0, SCENARIO = 212, HEAD = 19, S = 1, FIELD = 11 + S };
 
 static const struct whaupfield_profile p = {.n = 4, .k = 2, .a = 2, .t = 2, .s = S};
 
@@ -42,7 +41,7 @@ static void print_strips(const uint8_t *bundle)
     print_answer("plan", answer);
     for (uint64_t i = 0; i < WHAUPFIELD_VALUE(answer); i++)
         printf("strip %d of node %d row %d: %02X\n", (int)i, places[2 * i], places[2 * i + 1],
-               bundle[HEAD + i * FIELD + 9]);
+               bundle[HEAD + (i + 1) * FIELD - S]);
 }
 
 /* The array of the sample data. */
@@ -65,20 +64,21 @@ int main(void)
     memcpy(kept, array + LOST * width, width);
     memset(array + LOST * width, 0xEE, width);
 
-    uint64_t answer = whaupfield_write_bundle(WHAUPFIELD_PROFILE(p), LOST, 7, array, length, bundle, cut);
+    uint64_t answer = whaupfield_write_bundle(WHAUPFIELD_PROFILE(p), LOST, SCENARIO, 1, array, length, bundle, cut);
     print_answer("write bundle", answer);
     print_strips(bundle);
-    print_answer("rebuild", whaupfield_rebuild(WHAUPFIELD_PROFILE(p), LOST, 7, bundle, cut, column, width));
+    answer = whaupfield_rebuild(WHAUPFIELD_PROFILE(p), LOST, SCENARIO, 1, bundle, cut, column, width);
+    print_answer("rebuild", answer);
     printf("column %02X %02X, %s\n", column[0], column[1],
            memcmp(column, kept, width) == 0 ? "as it was" : "not what it was");
 
-    answer = whaupfield_rebuild(WHAUPFIELD_PROFILE(p), LOST, 8, bundle, cut, column, width);
-    print_answer("rebuild for scenario 8", answer);
+    answer = whaupfield_rebuild(WHAUPFIELD_PROFILE(p), LOST, SCENARIO, 2, bundle, cut, column, width);
+    print_answer("rebuild for run 2", answer);
 
-    whaupfield_write_bundle(WHAUPFIELD_PROFILE(p), LOST, 8, array, length, newer, cut);
-    memcpy(newer + HEAD, bundle + HEAD, FIELD);
-    answer = whaupfield_rebuild(WHAUPFIELD_PROFILE(p), LOST, 8, newer, cut, column, width);
-    print_answer("rebuild with a strip of scenario 7", answer);
+    whaupfield_write_bundle(WHAUPFIELD_PROFILE(p), LOST, SCENARIO, 2, array, length, newer, cut);
+    memcpy(newer + HEAD + FIELD, bundle + HEAD + FIELD, FIELD);
+    answer = whaupfield_rebuild(WHAUPFIELD_PROFILE(p), LOST, SCENARIO, 2, newer, cut, column, width);
+    print_answer("rebuild for run 2 with a strip of run 1", answer);
     free(array);
     free(bundle);
     free(newer);

@@ -210,7 +210,8 @@ module _ (p : Profile) (content : List ℕ) (r : Recording) (qs : List Place) (b
       is-formed = decided _ decides-formed (λ n. refuted Form (search by-name));
       is-headed = decided _ decides-headed (λ n. refuted Head (search by-name));
       is-placed = λ i l. place-is p m b i ∙ decided _ (decides-placed i) (λ n. refuted (Misplaced i) (search by-name));
-      is-fresh = λ i l. recording-read p m b i r (decided _ (decides-fresh i) (λ n. refuted (Stale i) (search by-name)));
+      is-fresh = λ i l. recording-read p m b i r
+          (decided _ (decides-fresh i) (λ n. refuted (Stale i) (search by-name)));
     }
 
 -- ---- what is written passes

@@ -84,7 +84,8 @@ module _ (p : Numbers) (f : ℕ) (r : Recording) (b y : List ℕ) where
   pub rebuild-call : CallFor p (λ p. rebuildTests p lost r b y) (λ p. rebuildSentences p lost r b y)
       ((4, 0) ∷ (5, 0) ∷ (6, 0) ∷ (7, 0) ∷ (listed P (λ i. (8, i)) ++ listed P (λ i. (9, i)))) y (rebuildOf p f r b y)
       (Done 0, rebuilt profile)
-  unfolding rebuildOf rebuildWith rebuildSentences bundleSentences lostContent recordingBytes fourBytes twoBytes numberOf indexOf
+  unfolding rebuildOf rebuildWith rebuildSentences bundleSentences lostContent recordingBytes fourBytes twoBytes
+      numberOf indexOf
   rebuild-call =
       call-for p y (λ p. rebuildTests p lost r b y) (λ p. rebuildSentences p lost r b y) (λ p. 0) rebuilt
       (λ acc. rebuild-decided _ lost r b y)

@@ -78,8 +78,8 @@ pub record CutFrom (p : Numbers) (f : ℕ) (x : List ℕ) (r : Recording) (b : L
 
 -- ---- a bundle to read
 -- '02, ..: lost node, scenario number in four bytes', K2: 'Field 02 has length 7', and the run in two bytes after the
--- scenario number. A scenario of 2^32 or more would count by its lowest 32 bits, a run of 2^16 or more by its lowest 16;
--- their types rule it out.
+-- scenario number. A scenario of 2^32 or more would count by its lowest 32 bits, a run of 2^16 or more by its lowest
+-- 16; their types rule it out.
 unfoldable pub bundleSentences : Profile → Node → Recording → List ℕ → List Sentence
 bundleSentences p f r b =
     messageSentences p 7 (f .0 ∷ (fourBytes (r .scenario) ++ twoBytes (r .run))) r (planned p f) b

@@ -4,7 +4,7 @@
 -- rebuildSentences p f r b y : the lines for rebuilding node f from the bundle b into y, past those of a profile
 -- Demand1Rebuild p f r b y   : a rebuild refuses as they say                                        demand-1-rebuild
 -- NotRefused p f r b y       : a rebuild of node f from the bundle b, into y, is not refused
--- InSixBytes r               : the scenario of the recording r is one that four bytes hold, its run one that two bytes do
+-- InSixBytes r               : four bytes hold the scenario of the recording r, and two its run
 -- RebuiltColumn p f r b y    : some encoded array has the strips of b; the rebuilt column is that of each such array
 --
 -- The statements of demand 3; Demand3.antt puts them together:

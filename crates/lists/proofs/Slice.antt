@@ -1,5 +1,5 @@
--- The laws of `slice`: of two lists in a row, two in a row, its length, its entries, its parts, and when it is listed by
--- a function of the index.
+-- The laws of `slice`: of two lists in a row, its length, its entries, two of them in a row, a part of it, and when it
+-- is listed by a function of the index.
 use mathlib.Core.Path.{_≡_, sym, ap, ap₂, _∙_}
 use mathlib.Core.List.{List, _++_}
 use Prim.Native.Nat.{ℕ, _+_, _-_, _≤_, _<_}
