@@ -15,7 +15,7 @@ use Rattle.demands.proofs.Rebuild.{
   whole-bundle,
 }
 use Rattle.demands.proofs.Bundle.{demand-3-write}
-use Rattle.demands.proofs.Recordings.{mixed-refused, together-passes, old-refused}
+use Rattle.demands.proofs.Recordings.{one-recording, mixed-refused, together-passes, old-refused}
 
 pub demand-3 : Demand3
 demand-3 = record {
@@ -35,6 +35,7 @@ demand-3 = record {
   cut-column = cut-column;
   cut-rebuilds = cut-rebuilds;
   whole-bundle = whole-bundle;
+  one-recording = one-recording;
   mixed-refused = mixed-refused;
   together-passes = together-passes;
   old-refused = old-refused;

@@ -107,7 +107,7 @@ module _ (p : Numbers) (f : ℕ) (r : Recording) (b y : List ℕ) where
     unfolding rebuildSentences
     below = decided _ (decides-lt f (p .n)) (λ n. granted .refuted {r = OutOfRange} (search by-name))
 
-    is-wanted : AsWanted profile (lostContent lost r) r (planned profile lost) b
+    pub is-wanted : AsWanted profile (lostContent lost r) r (planned profile lost) b
     unfolding rebuildSentences bundleSentences lostContent recordingBytes fourBytes twoBytes
     is-wanted =
         refuted-wanted profile (lostContent lost r) r (planned profile lost) b

@@ -1,11 +1,11 @@
 -- What K2 rules out: strips of two recordings in one rebuild, and bundles of the old form.
-use mathlib.Core.Path.{_≡_, sym, ap, ap₂, _∙_}
+use mathlib.Core.Path.{_≡_, sym, ap, ap₂, subst, _∙_}
 use mathlib.Core.Logic.{_≢_, inl, inr}
 use mathlib.Core.List.{List, [], _∷_}
 use Prim.Native.Nat.{ℕ, _+_, _*_, _≤_, _<_}
 use native.Mathlib.Nat.{add-zero, mul-le-mul}
 use native.Mathlib.Omega.{arith}
-use lib.ListN.{length, getD}
+use lib.ListN.{length, getD, drop}
 use Rattle.lists.specs.Put.{slice}
 use Rattle.lists.proofs.Slice.{slice-at, slice-part}
 use Rattle.fields.specs.Fields.{twoBytes, fourBytes}
@@ -16,7 +16,6 @@ use Rattle.document.specs.declared.Place.{Place}
 use Rattle.document.specs.declared.Recording.{Recording}
 use Rattle.document.specs.declared.Refusal.the-variants.{Stale}
 use Rattle.document.specs.declared.Answer.{Answer}
-use Rattle.document.specs.declared.Answer.the-variants.{Refused}
 use Rattle.document.specs.Refusals.{answerNumber}
 use Rattle.document.specs.Profile.{Accepted, profileOf}
 use Rattle.document.specs.Places.{place, placeAt}
@@ -28,13 +27,20 @@ use Rattle.document.proofs.Bounds.{room}
 use Rattle.demands.specs.Tables.{FirstOf}
 use Rattle.demands.specs.Message.{Formed, Headed, placeRead, OfRecording, stripSentences, messageSentences}
 use Rattle.demands.specs.Bundle.{bundleSentences, CutFrom}
-use Rattle.demands.specs.Rebuild.{rebuildSentences, InSixBytes}
-use Rattle.demands.specs.Recordings.{PutTogether, MixedRefused, TogetherPasses, OldBundle, OldRefused}
+use Rattle.demands.specs.Rebuild.{rebuildSentences, NotRefused, InSixBytes}
+use Rattle.demands.specs.Recordings.{
+  PutTogether,
+  OneRecording,
+  MixedRefused,
+  TogetherPasses,
+  OldForm,
+  OldRefused,
+}
 use Rattle.demands.proofs.Tables.{in-order, NoneHolds, first-listed, first-past, only-listed, line-by-line}
 use Rattle.demands.proofs.Message.{AsWanted, wanted-none, place-is, numbers-read, recording-read}
 use Rattle.demands.proofs.Whole.{same-recording}
 use Rattle.demands.proofs.Bundle.{cut-accepted, cut-below, cut-wanted}
-use Rattle.demands.proofs.Rebuild.{rebuild-call}
+use Rattle.demands.proofs.Rebuild.{rebuild-call, is-wanted}
 
 module _ (p : Numbers) (f : ℕ) where
   abbrev wanted : Profile
@@ -119,8 +125,7 @@ module _ (p : Numbers) (f : ℕ) where
             }
 
   -- ---- a bundle put together
-  module _ (r : Recording) (of : ℕ → Recording) (b y : List ℕ) (made : PutTogether p f r of b)
-      (size : length y ≡ p .a * p .s) where
+  module _ (r : Recording) (recordingOf : ℕ → Recording) (b : List ℕ) (made : PutTogether p f r recordingOf b) where
     open PutTogether made using (head)
 
     accepted : Accepted wanted
@@ -134,79 +139,101 @@ module _ (p : Numbers) (f : ℕ) where
       total = made .size;
       field-01 = first-opening (head .0) r (head .1) (head .2) b (head .3);
       field-02 = second-opening (head .0) r (head .1) (head .2) b (head .3);
-      fields-03 = λ i l. let s = made .strips i l in strip-opening (s .0) (of i) (s .1) (s .2) b i l (s .3);
+      fields-03 = λ i l. let s = made .strips i l in strip-opening (s .0) (recordingOf i) (s .1) (s .2) b i l (s .3);
     }
 
     headed : Headed wanted 7 (lostContent node r) b
     headed = head-headed (head .0) r (head .1) (head .2) b (head .3)
 
     placed : (i : ℕ) → i < P → placeRead b (at i) ≡ placeAt plan i
-    placed i l = let s = made .strips i l in strip-place (s .0) (of i) (s .1) (s .2) b i l (s .3)
+    placed i l = let s = made .strips i l in strip-place (s .0) (recordingOf i) (s .1) (s .2) b i l (s .3)
 
-    recorded : (i : ℕ) → i < P → OfRecording (of i) b (at i)
-    recorded i l = let s = made .strips i l in strip-recording (s .0) (of i) (s .1) (s .2) b i l (s .3)
+    recorded : (i : ℕ) → i < P → OfRecording (recordingOf i) b (at i)
+    recorded i l = let s = made .strips i l in strip-recording (s .0) (recordingOf i) (s .1) (s .2) b i l (s .3)
+
+    -- a strip that reads as one of w is of w
+    one-strip : (w : Recording) → InSixBytes w → (i : ℕ) → i < P → InSixBytes (recordingOf i) → OfRecording w b (at i)
+        → recordingOf i ≡ w
+    one-strip w fits i l fits-too o =
+        same-recording (recordingOf i) w fits-too fits
+        (sym (recording-read wanted 7 b i (recordingOf i) (recorded i l)) ∙ recording-read wanted 7 b i w o)
 
     -- the first strip of another recording
-    module _ (i : ℕ) (l : i < P) (before : (e : ℕ) → e < i → of e ≡ r) (other : of i ≢ r) (fits : InSixBytes r)
-        (fits-too : InSixBytes (of i)) where
-      foreign : OfRecording r b (at i) → ⊥
-      foreign o =
-          other
-          (same-recording (of i) r fits-too fits
-          (sym (recording-read wanted 7 b i (of i) (recorded i l)) ∙ recording-read wanted 7 b i r o))
-
+    module _ (y : List ℕ) (size : length y ≡ p .a * p .s) (i : ℕ) (l : i < P)
+        (before : (e : ℕ) → e < i → recordingOf e ≡ r) (other : recordingOf i ≢ r) (fits : InSixBytes r)
+        (fits-too : InSixBytes (recordingOf i)) where
       stale-strip : FirstOf (stripSentences wanted 7 r plan b) (Stale i)
       unfolding stripSentences
       stale-strip =
           first-past (only-listed P _ (λ e m n. n (placed e m)))
-          (first-listed P _ i l (λ e m n. n (rw (← before e m) (recorded e (omega arith)))) foreign)
+          (first-listed P _ i l
+          (λ e m n. n (subst (λ q. OfRecording q b (at e)) (before e m) (recorded e (omega arith))))
+          (λ o. other (one-strip r fits i l fits-too o)))
 
       stale-first : FirstOf (rebuildSentences wanted node r b y) (Stale i)
       unfolding rebuildSentences bundleSentences messageSentences lostContent recordingBytes
       stale-first = search (in-order, below, size, formed, headed, stale-strip) depth 20
 
-      is-refused : rebuildOf p f r b y ≡ (Refused (Stale i), y)
-      is-refused = rebuild-call p f r b y .stops accepted stale-first
-
     -- all strips of the wanted recording
-    module _ (one : (i : ℕ) → i < P → of i ≡ r) where
-      is-wanted : AsWanted wanted (lostContent node r) r plan b
+    module _ (one : (i : ℕ) → i < P → recordingOf i ≡ r) where
+      together : AsWanted wanted (lostContent node r) r plan b
       unfolding lostContent recordingBytes fourBytes twoBytes
-      is-wanted = record {
+      together = record {
         is-formed = formed;
         is-headed = headed;
         is-placed = λ i l. place-is wanted 7 b i ∙ placed i l;
-        is-fresh = λ i l. recording-read wanted 7 b i r (rw (← one i l) (recorded i l));
+        is-fresh = λ i l. recording-read wanted 7 b i r
+            (subst (λ q. OfRecording q b (at i)) (one i l) (recorded i l));
       }
 
-      passes : answerNumber (rebuildOf p f r b y .0) ≡ 0
+      passes : (y : List ℕ) → length y ≡ p .a * p .s → answerNumber (rebuildOf p f r b y .0) ≡ 0
       unfolding rebuildSentences bundleSentences lostContent recordingBytes fourBytes twoBytes answerNumber
-      passes =
+      passes y size =
           let read : NoneHolds (bundleSentences wanted node r b) =
-          wanted-none wanted (lostContent node r) r plan b is-wanted in
+          wanted-none wanted (lostContent node r) r plan b together in
           ap (λ (o : Answer × List ℕ). answerNumber (o .0))
           (rebuild-call p f r b y .through accepted (search (line-by-line, below, size)))
 
+    -- a rebuild for w that is not refused
+    module _ (w : Recording) (y : List ℕ) (e : NotRefused p f w b y) (fits : InSixBytes w) where
+      abbrev passed : AsWanted wanted (lostContent node w) w plan b
+      passed = is-wanted p f w b y e
+
+      same-head : InSixBytes r → r ≡ w
+      unfolding lostContent recordingBytes fourBytes twoBytes
+      same-head fits-too =
+          same-recording r w fits-too fits (ap (drop 1) (sym (headed .field-02) ∙ passed .is-headed .field-02))
+
+      same-strip : (i : ℕ) → i < P → InSixBytes (recordingOf i) → recordingOf i ≡ w
+      unfolding lostContent recordingBytes fourBytes twoBytes
+      same-strip i l fits-too = one-strip w fits i l fits-too (numbers-read wanted 7 b i w (passed .is-fresh i l))
+
+  pub one-recording : OneRecording p f
+  one-recording r w recordingOf b y made e fits fits-head fits-strip = (
+    same-head r recordingOf b made w y e fits fits-head,
+    λ i l. same-strip r recordingOf b made w y e fits i l (fits-strip i l),
+  )
+
   pub mixed-refused : MixedRefused p f
-  mixed-refused r of b y made size i l before other fits fits-too =
-      is-refused r of b y made size i l before other fits fits-too
+  mixed-refused r recordingOf b y made size i l before other fits fits-too =
+      rebuild-call p f r b y .stops (accepted r recordingOf b made)
+      (stale-first r recordingOf b made y size i l before other fits fits-too)
 
   pub together-passes : TogetherPasses p f
-  together-passes r of b y made size one = passes r of b y made size one
+  together-passes r recordingOf b y made size one = passes r recordingOf b made one y size
 
   -- ---- a bundle of the old form
-  old-unformed : (b : List ℕ) → OldBundle p f b → Formed wanted 7 P b → ⊥
+  old-unformed : (b : List ℕ) → OldForm p f b → Formed wanted 7 P b → ⊥
   unfolding twoBytes
-  old-unformed b (inl total) w =
+  old-unformed b (inl opens) w =
+      let five : _≡_ {A = ℕ} 5 7 = ap (λ (v : List ℕ). getD v 2 0) (sym opens ∙ w .field-02) in
+      omega arith
+  old-unformed b (inr total) w =
       let less : P * (9 + p .s) ≤ P * width =
       mul-le-mul {n₁ = P} {m₁ = 9 + p .s} {n₂ = P} {m₂ = width} (omega arith) (omega arith) in
       omega (arith, w .total)
-  old-unformed b (inr opens) w =
-      let five : _≡_ {A = ℕ} 5 7 = ap (λ (v : List ℕ). getD v 2 0) (sym opens ∙ w .field-02) in
-      omega arith
 
   pub old-refused : OldRefused p f
   unfolding rebuildSentences bundleSentences messageSentences
   old-refused acc below r b y size old =
-      rebuild-call p f r b y .stops acc
-      (search (in-order, below, size, old-unformed b old))
+      rebuild-call p f r b y .stops acc (search (in-order, below, size, old-unformed b old))

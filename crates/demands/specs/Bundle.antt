@@ -8,7 +8,7 @@
 -- CutFrom p f x r b       : b is a bundle cut from the stored array x
 --
 -- bundleSentences p f r b : the lines for a bundle to read, where the profile p, the lost node f and the recording r
---                           are wanted: those of a message with 7 bytes in field 02 (Message.antt)
+--                           are wanted: those of a message with 7 bytes of content in field 02 (Message.antt)
 --
 -- planned p f are the planned places, bundleStrip p b i is the strip i of the bundle b: document/specs/Plan.antt and
 -- Bundle.antt. The numbers are the documents' own: K2's 19 + P(11+S).
@@ -54,7 +54,7 @@ module _ (p : Numbers) (f : ℕ) (r : Recording) (x b : List ℕ) where
   written = writeOf p f r x b .1
 
   pub record WrittenBundle : Type 0 where
-    -- the fields of document 01, 'once a planned place in plan order'
+    -- the fields of document 01 and K2, field 03 'once a planned place in plan order'
     pub holds : written ≡ bundleOf (profileOf p) (record { 0 = f }) r x
     -- 'it takes its strips from the planned places'
     pub strips : HasStrips (profileOf p) (planned (profileOf p) (record { 0 = f })) x

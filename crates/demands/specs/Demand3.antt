@@ -19,7 +19,7 @@ use Rattle.demands.specs.Rebuild.{
   CutForWanted,
   WholeBundle,
 }
-use Rattle.demands.specs.Recordings.{MixedRefused, TogetherPasses, OldRefused}
+use Rattle.demands.specs.Recordings.{OneRecording, MixedRefused, TogetherPasses, OldRefused}
 
 pub record Demand3 : Type 0 where
   -- 'the plan names the places that its steps in document 01 list, in that order: distinct places, none on the dead
@@ -48,6 +48,7 @@ pub record Demand3 : Type 0 where
   pub cut-rebuilds : (p : Numbers) (f : ℕ) → CutRebuilds p f
   pub whole-bundle : (p : Numbers) (f : ℕ) → WholeBundle p f
   -- beyond the demand, K2: 'A recording is a scenario and a run .. 7 and 9 compare both numbers; old bundles get 6.'
+  pub one-recording : (p : Numbers) (f : ℕ) → OneRecording p f
   pub mixed-refused : (p : Numbers) (f : ℕ) → MixedRefused p f
   pub together-passes : (p : Numbers) (f : ℕ) → TogetherPasses p f
   pub old-refused : (p : Numbers) (f : ℕ) → OldRefused p f

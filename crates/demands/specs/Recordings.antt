@@ -1,17 +1,21 @@
 -- What K2 rules out: 'Document 01 lets strips pass together if their scenario matches. We ran scenario 212 twice in one
 -- afternoon, and a rebuild mixed the two.'
 --
--- PutTogether r of b : b is put together from bundles cut for the wanted numbers and node: its head is that of one for
---                      the recording r, its strip i with all its field that of one for the recording `of i`
--- MixedRefused       : such a bundle is refused with 9 at the first strip of another recording      mixed-refused
--- TogetherPasses     : it is not refused where all strips are of the wanted recording               together-passes
--- OldBundle b        : b has the length of a bundle of document 01 for what is wanted, or a field 02 as such bundles
---                      have it
--- OldRefused         : past 1 to 5 it is refused with 6                                             old-refused
+-- PutTogether r recordingOf b : b has the fields 01 and 02 of a bundle cut for the recording r, and for each i the
+--                               field 03 of strip i of a bundle cut for `recordingOf i`; all are cut for the wanted
+--                               numbers and node
+-- OneRecording                : such a bundle is not refused only if all of it is of the wanted recording
+--                                                                                                   one-recording
+-- MixedRefused                : with the wanted head it is refused with 9 at the first strip of another recording
+--                                                                                                   mixed-refused
+-- TogetherPasses              : it is not refused where all strips are of the wanted recording      together-passes
+-- OldForm b                   : field 02 of b opens as document 01 has it, or b has the length that document 01 gives a
+--                               bundle for what is wanted
+-- OldRefused                  : past 1 to 5 it is refused with 6                                    old-refused
 -- Shown in proofs/Recordings.antt, under the name beside each.
 --
--- In all of them p are the wanted numbers, f is the wanted node, r the wanted recording, b a bundle, y what the buffer
--- lent for the column holds.
+-- In all of them p are the wanted numbers, f is the wanted node, r or w a recording, b a bundle, y what the buffer lent
+-- for the column holds.
 use mathlib.Core.Path.{_≡_}
 use mathlib.Core.Logic.{_≢_, _⊎_}
 use mathlib.Core.List.{List, [], _∷_}
@@ -33,34 +37,43 @@ module _ (p : Numbers) (f : ℕ) where
   abbrev plan : List Place
   plan = planned (profileOf p) (record { 0 = f })
 
-  -- 'A bundle 19 + P(11+S)': the head takes 19 bytes, each field 03 takes 11+S.
-  pub record PutTogether (r : Recording) (of : ℕ → Recording) (b : List ℕ) : Type 0 where
+  -- 'a bundle 19 + P(11+S)': the head takes 19 bytes, each field 03 takes 11+S.
+  pub record PutTogether (r : Recording) (recordingOf : ℕ → Recording) (b : List ℕ) : Type 0 where
     pub size : length b ≡ 19 + length plan * (11 + p .s)
     pub head : (x c : List ℕ) × CutFrom p f x r c × (slice b 0 19 ≡ slice c 0 19)
     pub strips : (i : ℕ) → i < length plan
-        → (x c : List ℕ) × CutFrom p f x (of i) c
+        → (x c : List ℕ) × CutFrom p f x (recordingOf i) c
         × (slice b (19 + i * (11 + p .s)) (11 + p .s) ≡ slice c (19 + i * (11 + p .s)) (11 + p .s))
 
-  -- The bundles may be cut from any stored arrays, and the strips be of as many recordings as there are.
+  -- The bundles may be cut from any stored arrays, and the strips be of any number of recordings. Whichever recording w
+  -- is wanted, no mixture passes.
+  abbrev pub OneRecording : Type 0
+  OneRecording =
+      (r w : Recording) (recordingOf : ℕ → Recording) (b y : List ℕ) → PutTogether r recordingOf b
+      → NotRefused p f w b y → InSixBytes w → InSixBytes r
+      → ((i : ℕ) → i < length plan → InSixBytes (recordingOf i))
+      → (r ≡ w) × ((i : ℕ) → i < length plan → recordingOf i ≡ w)
+
+  -- The head is of the wanted recording r. With another head the answer is 7, by the table.
   abbrev pub MixedRefused : Type 0
   MixedRefused =
-      (r : Recording) (of : ℕ → Recording) (b y : List ℕ) → PutTogether r of b → length y ≡ p .a * p .s
-      → (i : ℕ) → i < length plan → ((e : ℕ) → e < i → of e ≡ r) → of i ≢ r → InSixBytes r → InSixBytes (of i)
-      → rebuildOf p f r b y ≡ (Refused (Stale i), y)
+      (r : Recording) (recordingOf : ℕ → Recording) (b y : List ℕ) → PutTogether r recordingOf b
+      → length y ≡ p .a * p .s → (i : ℕ) → i < length plan → ((e : ℕ) → e < i → recordingOf e ≡ r)
+      → recordingOf i ≢ r → InSixBytes r → InSixBytes (recordingOf i) → rebuildOf p f r b y ≡ (Refused (Stale i), y)
 
   abbrev pub TogetherPasses : Type 0
   TogetherPasses =
-      (r : Recording) (of : ℕ → Recording) (b y : List ℕ) → PutTogether r of b → length y ≡ p .a * p .s
-      → ((i : ℕ) → i < length plan → of i ≡ r) → NotRefused p f r b y
+      (r : Recording) (recordingOf : ℕ → Recording) (b y : List ℕ) → PutTogether r recordingOf b
+      → length y ≡ p .a * p .s → ((i : ℕ) → i < length plan → recordingOf i ≡ r) → NotRefused p f r b y
 
-  -- 'old bundles get 6'. Of document 01: 'Length: 17 + P(9+S)', '02, length 5', where field 02 starts at 9. The length
-  -- is that of an old bundle for the wanted profile and node. The opening of field 02 is that of every old bundle, also
-  -- of one for another profile that has the length of a new one.
-  abbrev pub OldBundle : List ℕ → Type 0
-  OldBundle b = (length b ≡ 17 + length plan * (9 + p .s)) ⊎ (slice b 9 3 ≡ 2 ∷ 0 ∷ 5 ∷ [])
+  -- 'old bundles get 6'. Of document 01: '02, length 5', where field 02 starts at 9, and 'Length: 17 + P(9+S)'. Every
+  -- old bundle has that opening, also one for another profile that has the length of a new one; the length is that of
+  -- an old bundle for the wanted profile and node.
+  abbrev pub OldForm : List ℕ → Type 0
+  OldForm b = (slice b 9 3 ≡ 2 ∷ 0 ∷ 5 ∷ []) ⊎ (length b ≡ 17 + length plan * (9 + p .s))
 
   -- Past 1 to 5: the profile is accepted, the node is one of it, and the column has its AS bytes.
   abbrev pub OldRefused : Type 0
   OldRefused =
-      Accepted (profileOf p) → f < p .n → (r : Recording) (b y : List ℕ) → length y ≡ p .a * p .s → OldBundle b
+      Accepted (profileOf p) → f < p .n → (r : Recording) (b y : List ℕ) → length y ≡ p .a * p .s → OldForm b
       → rebuildOf p f r b y ≡ (Refused Form, y)

@@ -7,7 +7,7 @@
 -- recording r and the places qs. A field starts with its tag and length, `opening`; its content follows. S is the
 -- length of a strip.
 --
--- recordingBytes r                  : what identifies a recording, in bytes: its scenario and its run
+-- recordingBytes r                  : a recording in bytes: its scenario and its run
 -- recordingLength                   : how many bytes that is
 -- profileContent p                  : the content of field 01
 -- maxProfileContent                 : no profile's is longer
@@ -24,7 +24,7 @@
 --
 -- Of a field 03 that starts at the offset `at` of b:
 -- placeIn b at                      : the place that it has
--- recordingIn b at                  : what its recording is identified by
+-- recordingIn b at                  : the bytes of its recording
 -- stripIn S b at                    : its strip
 -- opened S b at                     : the test of its tag and its length
 -- placed q b at                     : the test of its place, against the place q

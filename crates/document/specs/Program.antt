@@ -6,7 +6,7 @@
 -- wantedNode input      : the wanted node
 -- wantedRecording input : the wanted recording
 -- decimal v             : a number below 100 in decimal digits
--- refusalLine r              : the line for the refusal r
+-- refusalLine r         : the line for the refusal r
 -- outputOf outcome      : what is written for the outcome of a rebuild
 -- programOf input       : what the program writes
 use mathlib.Core.Bool.{cond}

@@ -40,7 +40,7 @@ pub struct Place {
     pub row: Row,
 }
 
-// What identifies a recording: a scenario is run more than once.
+// A recording is a scenario and a run of it.
 pub struct Recording {
     pub scenario: u32,
     pub run: u16,
@@ -50,7 +50,7 @@ impl Recording {
     // How many bytes it takes in a field.
     pub const BYTES: usize = 6;
 
-    // These bytes, as every field has them: the scenario, then the run, high byte first.
+    // These bytes, as fields 02 and 03 have them: the scenario, then the run, high byte first.
     pub fn bytes(self) -> [u8; Recording::BYTES]
         ensures { λ r. ⌜ r ≡ recordingBytes self ⌝ }
     {

@@ -81,7 +81,7 @@ fn place_at(places: &[u8], i: usize) -> Place
     }
 }
 
-// Writes what identifies the recording.
+// Writes a recording: its scenario and its run.
 fn put_recording(out: &mut [u8], at: usize, r: Recording) -> usize
     requires { ⌜ at + recordingLength ≤ length (now out) ⌝ }
     ensures { λ next. ⌜ Wrote (now (out .entry)) at (recordingBytes r) next (now (out .exit)) ⌝ }

@@ -1,5 +1,5 @@
-// The small program of document 01: thirteen bytes and a bundle on standard input, the rebuilt column or the line of a
-// refusal on standard output.
+// The small program of document 01, with K2's run: thirteen bytes and a bundle on standard input, the rebuilt column or
+// the line of a refusal on standard output.
 use libc::STDIN_FILENO;
 use libc::STDOUT_FILENO;
 

@@ -6,7 +6,7 @@
 -- outcome o           : an answer and a lent buffer as one list: number, value, bytes
 -- outerColumns o      : the same with the columns of nodes 0 and 3 alone
 -- bundle f fields     : a bundle for the lost node f, scenario 7, run 0, with these fields 03
--- strip j i v         : a field 03 for node j, row i with the strip v of one byte
+-- strip j i v         : a field 03 for node j, row i, scenario 7, run 0 with the strip v of one byte
 -- lent m              : a buffer of m bytes that is lent
 -- rebuilt f fields    : the outcome of a rebuild of node f from such a bundle
 -- surveyed t start B  : the outcome of a survey as one list: number, outcome (1 failing, 2 done, 3 open), position,
@@ -136,7 +136,7 @@ bundle f fields =
     ∷ 0x02 ∷ 0x00 ∷ 0x07 ∷ f ∷ 0x00 ∷ 0x00 ∷ 0x00 ∷ 0x07 ∷ 0x00 ∷ 0x00
     ∷ joined fields
 
--- A field 03 for node j, row i with a strip of one byte.
+-- A field 03 for node j, row i, scenario 7 and run 0 with a strip of one byte.
 abbrev pub strip : ℕ → ℕ → ℕ → List ℕ
 strip j i v = 0x03 ∷ 0x00 ∷ 0x09 ∷ j ∷ i ∷ 0x00 ∷ 0x00 ∷ 0x00 ∷ 0x07 ∷ 0x00 ∷ 0x00 ∷ v ∷ []
 

@@ -108,6 +108,7 @@ fn cut_sample(lost: usize, run: u16, bundle: &mut [u8]) {
     bundle::write_bundle(p, lost, Recording { scenario: 7, run }, &array, bundle);
 }
 
+// A refusal's number, and for 9 the index of its strip.
 fn print_refusal(r: Refusal) {
     print(b" is");
     print_number(r.number());
@@ -120,8 +121,7 @@ fn print_refusal(r: Refusal) {
     }
 }
 
-// The answer of a rebuild of (4,2,2) from a bundle for scenario 7, run 0: the column, or the refusal's number, and the
-// index where a strip is told.
+// The answer of a rebuild of (4,2,2) from a bundle for scenario 7, run 0: the column or the refusal.
 fn print_rebuilt(lost: usize, bundle: &[u8]) {
     let p = numbers(4, 2, 2, 2, 1);
     let mut column = [0xFFu8; 2];
