@@ -1,5 +1,5 @@
-/* For compare/broken: the functions of whaupfield.h over a library that was compiled without proofs. In there a slice is
- * passed as a pointer to its address and length. Nothing else is done here. */
+/* For compare/broken: the functions of whaupfield.h over a library that was compiled without proofs. In there a slice
+ * is passed as a pointer to its address and length. Nothing else is done here. */
 #include "whaupfield.h"
 
 typedef struct {
@@ -9,8 +9,8 @@ typedef struct {
 
 uint64_t unproved_encode(size_t, size_t, size_t, size_t, size_t, slice *, slice *);
 uint64_t unproved_plan(size_t, size_t, size_t, size_t, size_t, size_t, slice *);
-uint64_t unproved_write_bundle(size_t, size_t, size_t, size_t, size_t, size_t, uint32_t, slice *, slice *);
-uint64_t unproved_rebuild(size_t, size_t, size_t, size_t, size_t, size_t, uint32_t, slice *, slice *);
+uint64_t unproved_write_bundle(size_t, size_t, size_t, size_t, size_t, size_t, uint32_t, uint16_t, slice *, slice *);
+uint64_t unproved_rebuild(size_t, size_t, size_t, size_t, size_t, size_t, uint32_t, uint16_t, slice *, slice *);
 uint64_t unproved_read_back(size_t, size_t, size_t, size_t, size_t, slice *, slice *, slice *);
 uint64_t unproved_survey(size_t, size_t, size_t, size_t, size_t, size_t, size_t, slice *);
 uint8_t unproved_product(uint8_t, uint8_t);
@@ -31,20 +31,22 @@ uint64_t whaupfield_plan(size_t n, size_t k, size_t a, size_t t, size_t s, size_
     return unproved_plan(n, k, a, t, s, lost, &to);
 }
 
-uint64_t whaupfield_write_bundle(size_t n, size_t k, size_t a, size_t t, size_t s, size_t lost, uint32_t scenario,
+uint64_t whaupfield_write_bundle(size_t n, size_t k, size_t a, size_t t, size_t s, size_t lost,
+                                 uint32_t scenario, uint16_t run,
                                  const uint8_t *array, size_t array_length,
                                  uint8_t *bundle, size_t bundle_length)
 {
     slice from = {array, array_length}, to = {bundle, bundle_length};
-    return unproved_write_bundle(n, k, a, t, s, lost, scenario, &from, &to);
+    return unproved_write_bundle(n, k, a, t, s, lost, scenario, run, &from, &to);
 }
 
-uint64_t whaupfield_rebuild(size_t n, size_t k, size_t a, size_t t, size_t s, size_t lost, uint32_t scenario,
+uint64_t whaupfield_rebuild(size_t n, size_t k, size_t a, size_t t, size_t s, size_t lost,
+                            uint32_t scenario, uint16_t run,
                             const uint8_t *bundle, size_t bundle_length,
                             uint8_t *column, size_t column_length)
 {
     slice from = {bundle, bundle_length}, to = {column, column_length};
-    return unproved_rebuild(n, k, a, t, s, lost, scenario, &from, &to);
+    return unproved_rebuild(n, k, a, t, s, lost, scenario, run, &from, &to);
 }
 
 uint64_t whaupfield_read_back(size_t n, size_t k, size_t a, size_t t, size_t s,

@@ -8,8 +8,12 @@
 
 #include "whaupfield.h"
 
-/* Where the first strip's field starts in a bundle, and where the row and the scenario's last byte stand in it. */
-enum { SCENARIO = 7, FIRST_FIELD = 17, ROW = 4, SCENARIO_END = 8 };
+/* The recording, in numbers that no narrower type holds, and how many bytes it takes in a field. */
+enum { SCENARIO = 0x01020304, RUN = 0x0506, RECORDING = 6 };
+
+/* Where the first strip's field starts in a bundle: field 02 ends there, and its recording with it. Where in that field
+ * the row, the scenario's last byte and the run's last byte stand. */
+enum { FIRST_FIELD = 19, ROW = 4, SCENARIO_END = 8, RUN_END = 10 };
 
 /* What is lent: room for the longest buffers, and for one byte more. */
 static uint8_t data[WHAUPFIELD_MAX_DATA + 1], array[WHAUPFIELD_MAX_ARRAY + 1], places[WHAUPFIELD_MAX_PLAN + 1];
@@ -32,12 +36,12 @@ static uint64_t plan(struct whaupfield_profile p, size_t lost, size_t reading, s
 
 static uint64_t write_bundle(struct whaupfield_profile p, size_t lost, size_t reading, size_t writing)
 {
-    return whaupfield_write_bundle(WHAUPFIELD_PROFILE(p), lost, SCENARIO, array, reading, bundle, writing);
+    return whaupfield_write_bundle(WHAUPFIELD_PROFILE(p), lost, SCENARIO, RUN, array, reading, bundle, writing);
 }
 
 static uint64_t rebuild(struct whaupfield_profile p, size_t lost, size_t reading, size_t writing)
 {
-    return whaupfield_rebuild(WHAUPFIELD_PROFILE(p), lost, SCENARIO, bundle, reading, column, writing);
+    return whaupfield_rebuild(WHAUPFIELD_PROFILE(p), lost, SCENARIO, RUN, bundle, reading, column, writing);
 }
 
 static uint64_t read_back(struct whaupfield_profile p, size_t lost, size_t reading, size_t writing)
@@ -311,7 +315,23 @@ static void compare_refusals(void)
     COMPARE_REFUSAL(rebuild(p, 1, length, width), WHAUPFIELD_HEAD);
     COMPARE_REFUSAL(rebuild_changed(p, ROW), WHAUPFIELD_MISPLACED);
     COMPARE_REFUSAL(rebuild_changed(p, SCENARIO_END), WHAUPFIELD_STALE);
+    COMPARE_REFUSAL(rebuild_changed(p, RUN_END), WHAUPFIELD_STALE);
     COMPARE_REFUSAL(whaupfield_read_back(WHAUPFIELD_PROFILE(t_5), pair, 2, data, 4, output, 4), WHAUPFIELD_AMBIGUOUS);
+}
+
+/* The header hands the library the scenario and the run whole and in its order: their bytes stand where they should in
+ * a bundle, in field 02 and in the first strip's field. */
+static void compare_recording(void)
+{
+    const struct whaupfield_profile p = {4, 2, 2, 2, 1};
+    const uint8_t recording[RECORDING] = {1, 2, 3, 4, 5, 6};
+    const size_t from[] = {FIRST_FIELD - RECORDING, FIRST_FIELD + ROW + 1};
+
+    write_bundle(p, 0, whaupfield_array_length(p), whaupfield_bundle_length(p));
+    for (size_t i = 0; i < sizeof from / sizeof *from; i++, cases++)
+        if (memcmp(bundle + from[i], recording, RECORDING) != 0)
+            disagree("write_bundle n=%zu k=%zu A=%zu t=%zu S=%zu lost=0: scenario %d, run %d do not stand at byte %zu",
+                     WHAUPFIELD_PROFILE(p), SCENARIO, RUN, from[i]);
 }
 
 /* Each number up to the last refusal has a name and a sentence of its own, and all others those of none. */
@@ -415,6 +435,7 @@ int main(void)
     compare_ceilings();
     compare_any_numbers();
     compare_refusals();
+    compare_recording();
     compare_texts();
     compare_parts();
     compare_inverses();

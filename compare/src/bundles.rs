@@ -1,17 +1,27 @@
 //! The kinds about writing a bundle: the sample, accepted and refused calls.
 
 use crate::calls::{
-    every_lost_node, every_shape, random_profile, random_scenario, replace_number, small_and_refused_numbers,
+    every_lost_node, every_shape, random_profile, random_recording, replace_number, small_and_refused_numbers,
     small_like, Call, Tally,
 };
 use crate::code::{self, Profile, Refusal};
-use crate::download::Wanted;
+use crate::download::{Recording, Wanted};
 use crate::library::{self, Answer, Lent};
 use crate::random::Random;
 use crate::{hex, Count, Outcome};
 
-/// "The whole bundle of M4, node 0, scenario 7, 57 bytes".
-pub const SAMPLE: [u8; 57] = [
+/// "The whole bundle of M4, node 0, scenario 7". K2: "document 01's sample bundle, with run 0, has 67 bytes."
+pub const SAMPLE: [u8; 67] = [
+    0x01, 0x00, 0x06, 0x04, 0x02, 0x02, 0x02, 0x00, 0x01, //
+    0x02, 0x00, 0x07, 0x00, 0x00, 0x00, 0x00, 0x07, 0x00, 0x00, //
+    0x03, 0x00, 0x09, 0x01, 0x00, 0x00, 0x00, 0x00, 0x07, 0x00, 0x00, 0x02, //
+    0x03, 0x00, 0x09, 0x02, 0x00, 0x00, 0x00, 0x00, 0x07, 0x00, 0x00, 0x07, //
+    0x03, 0x00, 0x09, 0x03, 0x00, 0x00, 0x00, 0x00, 0x07, 0x00, 0x00, 0x0C, //
+    0x03, 0x00, 0x09, 0x02, 0x01, 0x00, 0x00, 0x00, 0x07, 0x00, 0x00, 0x00,
+];
+
+/// Document 01's own: "The whole bundle of M4, node 0, scenario 7, 57 bytes".
+pub const OLD_SAMPLE: [u8; 57] = [
     0x01, 0x00, 0x06, 0x04, 0x02, 0x02, 0x02, 0x00, 0x01, //
     0x02, 0x00, 0x05, 0x00, 0x00, 0x00, 0x00, 0x07, //
     0x03, 0x00, 0x07, 0x01, 0x00, 0x00, 0x00, 0x00, 0x07, 0x02, //
@@ -20,8 +30,12 @@ pub const SAMPLE: [u8; 57] = [
     0x03, 0x00, 0x07, 0x02, 0x01, 0x00, 0x00, 0x00, 0x07, 0x00,
 ];
 
-/// What that bundle is cut for.
-pub const SAMPLE_WANTED: Wanted = Wanted { profile: Profile { n: 4, k: 2, rows: 2, t: 2, s: 1 }, lost: 0, scenario: 7 };
+/// What both bundles are cut for, the older one without the run.
+pub const SAMPLE_WANTED: Wanted = Wanted {
+    profile: Profile { n: 4, k: 2, rows: 2, t: 2, s: 1 },
+    lost: 0,
+    recording: Recording { scenario: 7, run: 0 },
+};
 
 /// M4's array.
 const SAMPLE_ARRAY: [u8; 8] = [0x01, 0x04, 0x02, 0x04, 0x07, 0x00, 0x0C, 0x0C];
@@ -40,12 +54,13 @@ impl Case {
     }
 
     fn disagreement(&self, what: String) -> String {
-        let Wanted { profile: Profile { n, k, rows, t, s }, lost, scenario } = self.wanted;
+        let Wanted { profile: Profile { n, k, rows, t, s }, lost, recording: Recording { scenario, run } } =
+            self.wanted;
         let (array_length, bundle_length) = (self.array.len(), self.bundle.len());
         let (array, bundle) = (hex(&self.array), hex(&self.bundle));
         format!(
-            "write_bundle n={n} k={k} A={rows} t={t} S={s} lost={lost} scenario={scenario} array_len={array_length} \
-             array={array} bundle_len={bundle_length} bundle={bundle}: {what}"
+            "write_bundle n={n} k={k} A={rows} t={t} S={s} lost={lost} scenario={scenario} run={run} \
+             array_len={array_length} array={array} bundle_len={bundle_length} bundle={bundle}: {what}"
         )
     }
 
@@ -84,7 +99,7 @@ impl Call for Case {
     }
 }
 
-/// Document 01's whole bundle, as it is printed there.
+/// Document 01's whole bundle with run 0.
 pub fn samples(random: &mut Random) -> Outcome {
     let case = Case { wanted: SAMPLE_WANTED, array: SAMPLE_ARRAY.to_vec(), bundle: vec![0xEE; SAMPLE.len()] };
     case.call(Ok(&SAMPLE), random)?;
@@ -95,6 +110,7 @@ pub fn samples(random: &mut Random) -> Outcome {
 pub fn bundles(random: &mut Random) -> Outcome {
     let mut tally = Tally::default();
     every_bundle(&mut tally, random)?;
+    every_run(&mut tally, random)?;
     long_strips(&mut tally, random)?;
     every_number(&mut tally, random)?;
     mixed_calls(&mut tally, random)?;
@@ -114,10 +130,18 @@ fn every_bundle(tally: &mut Tally, random: &mut Random) -> Result<(), String> {
     Ok(())
 }
 
+/// Each run of the sample's scenario.
+fn every_run(tally: &mut Tally, random: &mut Random) -> Result<(), String> {
+    for run in 0..=u16::MAX {
+        tally.compare(Case::new(SAMPLE_WANTED.with_run(run), SAMPLE_ARRAY.len(), SAMPLE.len(), random), random)?;
+    }
+    Ok(())
+}
+
 /// Each accepted (n, k, A) with strips at the ceiling, and where the length of a field 03 first needs its high byte:
-/// 6+S is 255 or 256.
+/// 8+S is 255 or 256.
 fn long_strips(tally: &mut Tally, random: &mut Random) -> Result<(), String> {
-    for lengths in [249..=250, 250..=510, 511..=512, 512..=512] {
+    for lengths in [247..=248, 248..=510, 511..=512, 512..=512] {
         for wanted in every_shape(lengths, random) {
             let (array_length, bundle_length) = (wanted.profile.array_length(), wanted.bundle_length());
             tally.compare(Case::new(wanted, array_length, bundle_length, random), random)?;
@@ -127,8 +151,8 @@ fn long_strips(tally: &mut Tally, random: &mut Random) -> Result<(), String> {
 }
 
 /// The lengths to lend with these numbers: those that fit, or fit what a narrower type leaves, and those one off,
-/// exchanged or 0.
-fn lengths_for(wanted: &Wanted) -> [(usize, usize); 11] {
+/// exchanged or 0, and that of a bundle without a run.
+fn lengths_for(wanted: &Wanted) -> [(usize, usize); 12] {
     let small = small_like(wanted);
     let (array, bundle) = (small.profile.array_length(), small.bundle_length());
     let (less_array, less_bundle) = (array.saturating_sub(1), bundle - 1);
@@ -144,6 +168,7 @@ fn lengths_for(wanted: &Wanted) -> [(usize, usize); 11] {
         (0, bundle),
         (array, 0),
         (0, 0),
+        (array, small.old_bundle_length()),
     ]
 }
 
@@ -157,7 +182,7 @@ fn every_length(wanted: Wanted, tally: &mut Tally, random: &mut Random) -> Resul
 /// All small numbers, and every mixture of refusals 1, 2, 3, 4 and 5, also of none.
 fn every_number(tally: &mut Tally, random: &mut Random) -> Result<(), String> {
     for (profile, lost) in small_and_refused_numbers(random) {
-        every_length(Wanted { profile, lost, scenario: random_scenario(random) }, tally, random)?;
+        every_length(Wanted { profile, lost, recording: random_recording(random) }, tally, random)?;
     }
     Ok(())
 }
@@ -172,7 +197,7 @@ fn mixed_calls(tally: &mut Tally, random: &mut Random) -> Result<(), String> {
         for _ in 0..random.between(0, 2) {
             replace_number(&given, &mut profile, &mut lost, random);
         }
-        let wanted = Wanted { profile, lost, scenario: random_scenario(random) };
+        let wanted = Wanted { profile, lost, recording: random_recording(random) };
         let lengths = lengths_for(&wanted);
         let any = random.one_of(&lengths);
         let (array_length, bundle_length) = random.one_of(&[lengths[0], any]);

@@ -1,7 +1,7 @@
 //! What the kinds about whole calls share: their tally, and numbers to call with.
 
 use crate::code::{self, Profile, Refusal};
-use crate::download::Wanted;
+use crate::download::{Recording, Wanted};
 use crate::random::Random;
 use crate::{Count, Outcome};
 
@@ -146,8 +146,8 @@ fn far_from(number: usize) -> [usize; 8] {
     [byte, two_bytes, four_bytes, bits, 1 << 32, 1 << 63, usize::MAX - 1, usize::MAX]
 }
 
-/// Each accepted (n, k, A), short strips and a node: that profile; then a profile and a lost node, in which one of the six
-/// numbers is replaced by one far out of range.
+/// Each accepted (n, k, A), short strips and a node: that profile; then a profile and a lost node, in which one of the
+/// six numbers is replaced by one far out of range.
 pub fn far_numbers(random: &mut Random) -> Vec<(Profile, (Profile, usize))> {
     let mut numbers = Vec::new();
     for (n, k, rows) in code::all_accepted() {
@@ -193,9 +193,23 @@ pub fn replace_number(accepted: &Profile, profile: &mut Profile, lost: &mut usiz
 }
 
 /// A scenario number, often at an edge.
-pub fn random_scenario(random: &mut Random) -> u32 {
+fn random_scenario(random: &mut Random) -> u32 {
     let any = random.number() as u32;
     random.one_of(&[0, 7, 1 << 24, u32::MAX, any, any, any])
+}
+
+/// Runs at the edges of one byte and of two.
+pub const EDGES_OF_RUNS: [u16; 8] = [0, 1, 255, 256, 257, 1 << 15, u16::MAX - 1, u16::MAX];
+
+/// A run, often at an edge.
+fn random_run(random: &mut Random) -> u16 {
+    let (edge, any) = (random.one_of(&EDGES_OF_RUNS), random.number() as u16);
+    random.one_of(&[edge, edge, any])
+}
+
+/// A scenario and a run, each often at an edge.
+pub fn random_recording(random: &mut Random) -> Recording {
+    Recording { scenario: random_scenario(random), run: random_run(random) }
 }
 
 /// Numbers like these that a bundle can be made for, and its length told: what a narrower type would leave of them
@@ -212,24 +226,24 @@ pub fn small_like(wanted: &Wanted) -> Wanted {
     Wanted { profile, lost: if byte(wanted.lost) < n { byte(wanted.lost) } else { 0 }, ..*wanted }
 }
 
-/// Each accepted (n, k, A) with each lost node, any t and scenario number, and a short strip.
+/// Each accepted (n, k, A) with each lost node, any t and recording, and a short strip.
 pub fn every_lost_node(random: &mut Random) -> Vec<Wanted> {
     let mut all = Vec::new();
     for (n, k, rows) in code::all_accepted() {
         for lost in 0..n {
             let profile = Profile { s: random.between(1, 8), ..random_profile(n, k, rows, random) };
-            all.push(Wanted { profile, lost, scenario: random_scenario(random) });
+            all.push(Wanted { profile, lost, recording: random_recording(random) });
         }
     }
     all
 }
 
-/// Each accepted (n, k, A) with one lost node, any t and scenario number, and a strip of one of these lengths.
+/// Each accepted (n, k, A) with one lost node, any t and recording, and a strip of one of these lengths.
 pub fn every_shape(strip_lengths: std::ops::RangeInclusive<usize>, random: &mut Random) -> Vec<Wanted> {
     let (shortest, longest) = strip_lengths.into_inner();
     let any = |(n, k, rows): (usize, usize, usize)| {
         let profile = Profile { s: random.between(shortest, longest), ..random_profile(n, k, rows, random) };
-        Wanted { profile, lost: random.between(0, n - 1), scenario: random_scenario(random) }
+        Wanted { profile, lost: random.between(0, n - 1), recording: random_recording(random) }
     };
     code::all_accepted().into_iter().map(any).collect()
 }

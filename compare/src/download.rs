@@ -1,13 +1,29 @@
-//! Document 01's download bundle: what writing one answers, and which bundles a rebuild refuses.
+//! Document 01's download bundle with the run that document 02's K2 adds: what writing one answers, and which bundles
+//! a rebuild refuses.
 
 use crate::code::{Place, Profile, Refusal};
+
+/// K2: "A recording is a scenario and a run, two bytes more, after the scenario number."
+#[derive(Clone, Copy, PartialEq, Debug, Default)]
+pub struct Recording {
+    pub scenario: u32,
+    pub run: u16,
+}
+
+impl Recording {
+    /// "four-byte numbers high byte first too", and K2: "The run goes high byte first".
+    pub fn bytes(&self) -> [u8; 6] {
+        let ([a, b, c, d], [high, low]) = (self.scenario.to_be_bytes(), self.run.to_be_bytes());
+        [a, b, c, d, high, low]
+    }
+}
 
 /// What a bundle is cut for, and what a rebuild is given beside it.
 #[derive(Clone, Copy, PartialEq, Debug)]
 pub struct Wanted {
     pub profile: Profile,
     pub lost: usize,
-    pub scenario: u32,
+    pub recording: Recording,
 }
 
 /// A tag and a content. In a bundle the content's length stands between them.
@@ -22,15 +38,30 @@ impl Wanted {
         self.profile.refusal().or((self.lost >= self.profile.n).then_some(Refusal::OutOfRange))
     }
 
-    /// "Length: 17 + P(9+S), P the number of places." This and all that follow are for numbers that are accepted,
-    /// or small.
+    /// The same for another run of the scenario.
+    pub fn with_run(&self, run: u16) -> Wanted {
+        Wanted { recording: Recording { run, ..self.recording }, ..*self }
+    }
+
+    /// K2: "a bundle 19 + P(11+S)", P the number of places. This and all that follow are for numbers that are
+    /// accepted, or small.
     pub fn bundle_length(&self) -> usize {
         self.strip_field_start(self.profile.number_of_places())
     }
 
+    /// Document 01's length of a bundle without a run: "17 + P(9+S), P the number of places."
+    pub fn old_bundle_length(&self) -> usize {
+        17 + self.profile.number_of_places() * (9 + self.profile.s)
+    }
+
     /// Where the field 03 of a strip starts, its index counted from 0.
     pub fn strip_field_start(&self, index: usize) -> usize {
-        17 + index * (9 + self.profile.s)
+        19 + index * self.strip_field_length()
+    }
+
+    /// With the tag and the length.
+    pub fn strip_field_length(&self) -> usize {
+        11 + self.profile.s
     }
 
     pub fn places(&self) -> Vec<Place> {
@@ -43,15 +74,15 @@ impl Wanted {
         Field { tag: 1, content: vec![n as u8, k as u8, rows as u8, t as u8, (s >> 8) as u8, s as u8] }
     }
 
-    /// "02, length 5: lost node, scenario number in four bytes."
+    /// "02 ..: lost node, scenario number in four bytes", and K2's run: "Field 02 has length 7".
     fn lost_field(&self) -> Field {
-        Field { tag: 2, content: [&[self.lost as u8][..], &self.scenario.to_be_bytes()].concat() }
+        Field { tag: 2, content: [&[self.lost as u8][..], &self.recording.bytes()].concat() }
     }
 
-    /// "03, length 6+S ..: node, row, scenario number, strip."
+    /// "03 ..: node, row, scenario number, strip", and K2's run: "field 03 length 8+S".
     fn strip_field(&self, place: Place, strip: &[u8]) -> Field {
         let place = [place.node as u8, place.row as u8];
-        Field { tag: 3, content: [&place, &self.scenario.to_be_bytes()[..], strip].concat() }
+        Field { tag: 3, content: [&place, &self.recording.bytes()[..], strip].concat() }
     }
 
     /// The fields of a bundle with these strips, given in plan order.
@@ -64,7 +95,20 @@ impl Wanted {
         joined(&self.fields(strips))
     }
 
-    /// "it takes its strips from the planned places and the scenario number from the caller".
+    /// A bundle as it was before K2, without a run. Document 01: "02, length 5: lost node, scenario number in four
+    /// bytes." "03, length 6+S, once a planned place in plan order: node, row, scenario number, strip."
+    pub fn old_bundle(&self, strips: &[Vec<u8>]) -> Vec<u8> {
+        // the run taken out of each content: it stands after the scenario number
+        let mut fields = self.fields(strips);
+        fields[1].content.drain(5..7);
+        for field in &mut fields[2..] {
+            field.content.drain(6..8);
+        }
+        joined(&fields)
+    }
+
+    /// "it takes its strips from the planned places and the scenario number from the caller", from whom the run comes
+    /// as well.
     pub fn cut(&self, array: &[u8]) -> Vec<u8> {
         let strip = |place| array[self.profile.strip_start(place)..][..self.profile.s].to_vec();
         self.bundle(&self.places().into_iter().map(strip).collect::<Vec<_>>())
@@ -90,6 +134,7 @@ impl Wanted {
             return Err(Refusal::BufferLength);
         }
         let fields = self.formed_fields(bundle).ok_or(Refusal::BundleForm)?;
+        // K2: "7 and 9 compare both numbers", the scenario and the run.
         if fields[0].content != self.profile_field().content || fields[1].content != self.lost_field().content {
             return Err(Refusal::BundleHead);
         }
@@ -98,21 +143,22 @@ impl Wanted {
             let Place { node, row } = places[index];
             strips[index].content[..2] != [node as u8, row as u8]
         };
-        let stale = |&index: &usize| strips[index].content[2..6] != self.scenario.to_be_bytes();
+        let stale = |&index: &usize| strips[index].content[2..8] != self.recording.bytes();
         if let Some(index) = (0..strips.len()).find(misplaced) {
             return Err(Refusal::Misplaced(index));
         }
         if let Some(index) = (0..strips.len()).find(stale) {
             return Err(Refusal::Stale(index));
         }
-        Ok(strips.iter().map(|field| field.content[6..].to_vec()).collect())
+        Ok(strips.iter().map(|field| field.content[8..].to_vec()).collect())
     }
 
-    /// The fields of a bundle whose total length, tags and field lengths are those wanted; nothing of another.
+    /// The fields of a bundle whose total length, tags and field lengths are those wanted; nothing of another, so that,
+    /// as K2 says, "old bundles get 6".
     fn formed_fields(&self, bundle: &[u8]) -> Option<Vec<Field>> {
         let fields = parted(bundle)?;
-        let mut wanted = vec![(1, 6), (2, 5)];
-        wanted.resize(2 + self.profile.number_of_places(), (3, 6 + self.profile.s));
+        let mut wanted = vec![(1, 6), (2, 7)];
+        wanted.resize(2 + self.profile.number_of_places(), (3, 8 + self.profile.s));
         let given: Vec<(u8, usize)> = fields.iter().map(|field| (field.tag, field.content.len())).collect();
         (bundle.len() == self.bundle_length() && given == wanted).then_some(fields)
     }

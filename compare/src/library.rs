@@ -1,7 +1,7 @@
 //! The library under test: its C functions, and safe calls that lend buffers with guard bytes around them.
 
 use crate::code::{Profile, Refusal};
-use crate::download::Wanted;
+use crate::download::{Recording, Wanted};
 use crate::generator::{Found, Survey};
 use crate::random::Random;
 
@@ -35,6 +35,7 @@ extern "C" {
         s: usize,
         lost: usize,
         scenario: u32,
+        run: u16,
         array: *const u8,
         array_len: usize,
         bundle: *mut u8,
@@ -48,6 +49,7 @@ extern "C" {
         s: usize,
         lost: usize,
         scenario: u32,
+        run: u16,
         bundle: *const u8,
         bundle_len: usize,
         column: *mut u8,
@@ -214,19 +216,21 @@ pub fn plan(profile: &Profile, lost: usize, places: &mut Lent) -> Answer {
 }
 
 pub fn write_bundle(wanted: &Wanted, array: &mut Lent, bundle: &mut Lent) -> Answer {
-    let Wanted { profile: Profile { n, k, rows, t, s }, lost, scenario } = *wanted;
+    let Wanted { profile: Profile { n, k, rows, t, s }, lost, recording: Recording { scenario, run } } = *wanted;
     let (from, to) = (array.pointer(), bundle.pointer());
     // Both pointers are to live bytes of the lengths given, in allocations apart.
-    let word =
-        unsafe { whaupfield_write_bundle(n, k, rows, t, s, lost, scenario, from, array.length, to, bundle.length) };
+    let word = unsafe {
+        whaupfield_write_bundle(n, k, rows, t, s, lost, scenario, run, from, array.length, to, bundle.length)
+    };
     Answer::from_word(word)
 }
 
 pub fn rebuild(wanted: &Wanted, bundle: &mut Lent, column: &mut Lent) -> Answer {
-    let Wanted { profile: Profile { n, k, rows, t, s }, lost, scenario } = *wanted;
+    let Wanted { profile: Profile { n, k, rows, t, s }, lost, recording: Recording { scenario, run } } = *wanted;
     let (from, to) = (bundle.pointer(), column.pointer());
     // Both pointers are to live bytes of the lengths given, in allocations apart.
-    let word = unsafe { whaupfield_rebuild(n, k, rows, t, s, lost, scenario, from, bundle.length, to, column.length) };
+    let word =
+        unsafe { whaupfield_rebuild(n, k, rows, t, s, lost, scenario, run, from, bundle.length, to, column.length) };
     Answer::from_word(word)
 }
 

@@ -1,4 +1,4 @@
-//! Compares the array store's exported C functions with document 01, read here a second time. See README.md.
+//! Compares the array store's exported C functions with documents 01 and 02, read here a second time. See README.md.
 //!
 //! To add a call: its declaration and wrapper in library.rs, its definition in code.rs, download.rs, generator.rs or a
 //! file beside them, its kinds in a file of their own, and a line in KINDS. What the kinds share is in calls.rs.
@@ -16,6 +16,7 @@ mod plans;
 mod random;
 mod readings;
 mod rebuilds;
+mod recordings;
 mod solving;
 mod surveys;
 
@@ -48,7 +49,7 @@ impl std::fmt::Display for Count {
 pub type Outcome = Result<Vec<Count>, String>;
 
 /// Each kind has a generator of its own, so that a new kind changes no other's cases; so new ones go last.
-const KINDS: [fn(&mut Random) -> Outcome; 19] = [
+const KINDS: [fn(&mut Random) -> Outcome; 21] = [
     arithmetic::products,
     arithmetic::inverses,
     arithmetic::samples,
@@ -68,6 +69,8 @@ const KINDS: [fn(&mut Random) -> Outcome; 19] = [
     readings::readings,
     surveys::samples,
     surveys::surveys,
+    recordings::two_runs,
+    recordings::old_bundles,
 ];
 
 const SEED: u64 = 1;

@@ -5,7 +5,7 @@ use crate::calls::{
     OFTEN,
 };
 use crate::code::{self, Profile, Refusal};
-use crate::download::Wanted;
+use crate::download::{Recording, Wanted};
 use crate::generator::{self, random_list, Generator, Sets};
 use crate::library::{self, Answer, Lent};
 use crate::random::Random;
@@ -400,7 +400,7 @@ fn every_mixture(ambiguous: &[(Profile, Vec<u8>)], tally: &mut Tally, random: &m
 /// last in the list, or what a byte leaves of it.
 fn every_number(tally: &mut Tally, random: &mut Random) -> Result<(), String> {
     for (profile, node) in small_and_refused_numbers(random) {
-        let small = small_like(&Wanted { profile, lost: node, scenario: 0 }).profile;
+        let small = small_like(&Wanted { profile, lost: node, recording: Recording::default() }).profile;
         let mut nodes = random_list(small.n, small.k, random);
         if node >= small.n {
             nodes[small.k - 1] = node as u8;

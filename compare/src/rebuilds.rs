@@ -1,22 +1,22 @@
 //! The kinds about rebuilding a lost node: samples, columns that come back, accepted and refused calls.
 
-use crate::bundles::{SAMPLE, SAMPLE_WANTED};
+use crate::bundles::{OLD_SAMPLE, SAMPLE, SAMPLE_WANTED};
 use crate::calls::{
-    every_lost_node, every_shape, random_profile, random_scenario, replace_number, small_and_refused_numbers,
-    small_like, Call, Tally,
+    every_lost_node, every_shape, random_profile, random_recording, replace_number, small_and_refused_numbers,
+    small_like, Call, Tally, EDGES_OF_RUNS,
 };
 use crate::code::{self, Profile, Refusal};
-use crate::download::{joined, Wanted};
+use crate::download::{joined, Recording, Wanted};
 use crate::library::{self, Answer, Lent};
 use crate::random::Random;
 use crate::solving;
 use crate::{hex, Count, Outcome};
 
 /// One call: what is wanted, the bundle and what the buffer for the column holds before.
-struct Case {
-    wanted: Wanted,
-    bundle: Vec<u8>,
-    column: Vec<u8>,
+pub struct Case {
+    pub wanted: Wanted,
+    pub bundle: Vec<u8>,
+    pub column: Vec<u8>,
 }
 
 impl Case {
@@ -25,17 +25,18 @@ impl Case {
     }
 
     /// With a buffer for the column that fits accepted numbers.
-    fn fitting(wanted: Wanted, bundle: Vec<u8>, random: &mut Random) -> Case {
+    pub fn fitting(wanted: Wanted, bundle: Vec<u8>, random: &mut Random) -> Case {
         Case::new(wanted, bundle, wanted.profile.column_length(), random)
     }
 
-    fn disagreement(&self, what: String) -> String {
-        let Wanted { profile: Profile { n, k, rows, t, s }, lost, scenario } = self.wanted;
+    pub fn disagreement(&self, what: String) -> String {
+        let Wanted { profile: Profile { n, k, rows, t, s }, lost, recording: Recording { scenario, run } } =
+            self.wanted;
         let (bundle_length, column_length) = (self.bundle.len(), self.column.len());
         let (bundle, column) = (hex(&self.bundle), hex(&self.column));
         format!(
-            "rebuild n={n} k={k} A={rows} t={t} S={s} lost={lost} scenario={scenario} bundle_len={bundle_length} \
-             bundle={bundle} column_len={column_length} column={column}: {what}"
+            "rebuild n={n} k={k} A={rows} t={t} S={s} lost={lost} scenario={scenario} run={run} \
+             bundle_len={bundle_length} bundle={bundle} column_len={column_length} column={column}: {what}"
         )
     }
 
@@ -85,7 +86,7 @@ impl Call for Case {
     }
 }
 
-/// Document 01's M7 and M8, and the edges of its bundle's length, as they are printed there.
+/// Document 01's M7 and M8, the edges of its bundle's length, and its bundle of 57 bytes, which K2 made an old one.
 pub fn samples(random: &mut Random) -> Outcome {
     let m8 = Wanted { lost: 3, ..SAMPLE_WANTED };
     let m8_bundle = m8.bundle(&[0x00, 0x04, 0x04, 0x02].map(|byte| vec![byte]));
@@ -94,10 +95,22 @@ pub fn samples(random: &mut Random) -> Outcome {
         let given = case.call(None, random)?;
         case.same_column(&given, &expected)?;
     }
-    for bundle in [SAMPLE[..56].to_vec(), [&SAMPLE[..], &[0]].concat()] {
+    let old = SAMPLE_WANTED.old_bundle(&sample_strips());
+    if old != OLD_SAMPLE {
+        return Err(format!("this program's old form of document 01's bundle is {}", hex(&old)));
+    }
+    let around = |bundle: &[u8]| [bundle[..bundle.len() - 1].to_vec(), [bundle, &[0]].concat()];
+    let all = [&around(&SAMPLE)[..], &[old], &around(&OLD_SAMPLE)].concat();
+    let cases = 2 + all.len();
+    for bundle in all {
         Case { wanted: SAMPLE_WANTED, bundle, column: vec![0xEE; 2] }.call(Some(Refusal::BundleForm), random)?;
     }
-    Ok(vec![Count::of("samples of rebuilds", 4)])
+    Ok(vec![Count::of("samples of rebuilds", cases)])
+}
+
+/// M7's strips, which are those of document 01's bundle.
+pub fn sample_strips() -> Vec<Vec<u8>> {
+    [0x02, 0x07, 0x0C, 0x00].map(|byte| vec![byte]).to_vec()
 }
 
 /// Bundles cut from encoded arrays: the column that was lost comes back. Each accepted (n, k, A) with each lost node
@@ -126,7 +139,7 @@ pub fn rebuilds(random: &mut Random) -> Outcome {
     other_lengths(&mut tally, random)?;
     other_forms(&mut tally, random)?;
     other_strips(&mut tally, random)?;
-    other_nodes_and_scenarios(&mut tally, random)?;
+    other_nodes_and_recordings(&mut tally, random)?;
     other_profiles(&mut tally, random)?;
     some_bytes_changed(&mut tally, random)?;
     every_number(&mut tally, random)?;
@@ -135,12 +148,12 @@ pub fn rebuilds(random: &mut Random) -> Outcome {
 }
 
 /// Random strips for these accepted or small numbers.
-fn random_strips(wanted: &Wanted, random: &mut Random) -> Vec<Vec<u8>> {
+pub fn random_strips(wanted: &Wanted, random: &mut Random) -> Vec<Vec<u8>> {
     wanted.places().iter().map(|_| random.bytes(wanted.profile.s)).collect()
 }
 
 /// A bundle in order for these accepted or small numbers, with random strips.
-fn random_bundle(wanted: &Wanted, random: &mut Random) -> Vec<u8> {
+pub fn random_bundle(wanted: &Wanted, random: &mut Random) -> Vec<u8> {
     wanted.bundle(&random_strips(wanted, random))
 }
 
@@ -171,7 +184,7 @@ fn any_strips(tally: &mut Tally, random: &mut Random) -> Result<(), String> {
 /// Document 01's bundle and one with S = 3, with each byte changed to each other value.
 fn every_byte_changed(tally: &mut Tally, random: &mut Random) -> Result<(), String> {
     let profile = Profile { n: 6, k: 3, rows: 3, t: 29, s: 3 };
-    let other = Wanted { profile, lost: 4, scenario: 0x0102_0304 };
+    let other = Wanted { profile, lost: 4, recording: Recording { scenario: 0x0102_0304, run: 0x0506 } };
     let other_bundle = random_bundle(&other, random);
     for (wanted, bundle) in [(SAMPLE_WANTED, SAMPLE.to_vec()), (other, other_bundle)] {
         for at in 0..bundle.len() {
@@ -190,15 +203,16 @@ fn every_byte_changed(tally: &mut Tally, random: &mut Random) -> Result<(), Stri
 fn other_lengths(tally: &mut Tally, random: &mut Random) -> Result<(), String> {
     for wanted in every_shape(1..=8, random) {
         let bundle = random_bundle(&wanted, random);
-        let (length, field) = (bundle.len(), 9 + wanted.profile.s);
+        let (length, field, first) = (bundle.len(), wanted.strip_field_length(), wanted.strip_field_start(0));
         let column = wanted.profile.column_length();
         let any = random.between(0, length - 1);
-        let mut all: Vec<Vec<u8>> =
-            [0, 1, 3, 9, 16, 17, any, length - field, length - 1, length].map(|to| bundle[..to].to_vec()).to_vec();
+        let mut all: Vec<Vec<u8>> = [0, 1, 3, 9, first - 1, first, any, length - field, length - 1, length]
+            .map(|to| bundle[..to].to_vec())
+            .to_vec();
         all.push([&bundle[..], &[0]].concat());
         all.push([&bundle[..], &random.bytes(field)].concat());
         all.push([&bundle[..], &bundle[length - field..]].concat());
-        all.push([&bundle[..17], &bundle[17 + field..]].concat());
+        all.push([&bundle[..first], &bundle[first + field..]].concat());
         all.push([&[0], &bundle[..]].concat());
         for bundle in all {
             for column_length in [column, column - 1, column + 1, 2 * column, wanted.profile.s, 0] {
@@ -238,7 +252,7 @@ fn other_forms(tally: &mut Tally, random: &mut Random) -> Result<(), String> {
 }
 
 /// Gives a strip of a bundle another place: another node, another row, or both.
-fn misplace(wanted: &Wanted, bundle: &mut [u8], index: usize, random: &mut Random) {
+pub fn misplace(wanted: &Wanted, bundle: &mut [u8], index: usize, random: &mut Random) {
     let at = wanted.strip_field_start(index) + 3;
     let (node, row) = (random.between(1, 3) as u8, random.between(1, 255) as u8);
     let (other_node, other_row) = random.one_of(&[(node, 0), (0, 1), (row, 0), (0, row), (node, 1)]);
@@ -246,9 +260,9 @@ fn misplace(wanted: &Wanted, bundle: &mut [u8], index: usize, random: &mut Rando
     bundle[at + 1] ^= other_row;
 }
 
-/// Gives a strip of a bundle another scenario number, which differs in one byte.
+/// Gives a strip of a bundle another recording, which differs in one byte of the scenario or of the run.
 fn make_stale(wanted: &Wanted, bundle: &mut [u8], index: usize, random: &mut Random) {
-    let at = wanted.strip_field_start(index) + 5 + random.between(0, 3);
+    let at = wanted.strip_field_start(index) + 5 + random.between(0, 5);
     let any = random.between(1, 255) as u8;
     bundle[at] ^= random.one_of(&[1, 0x80, any]);
 }
@@ -256,7 +270,7 @@ fn make_stale(wanted: &Wanted, bundle: &mut [u8], index: usize, random: &mut Ran
 /// Exchanges two strips of a bundle with all of their fields.
 fn exchange(wanted: &Wanted, bundle: &mut [u8], one: usize, other: usize) {
     let (one, other) = (wanted.strip_field_start(one), wanted.strip_field_start(other));
-    for at in 0..9 + wanted.profile.s {
+    for at in 0..wanted.strip_field_length() {
         bundle.swap(one + at, other + at);
     }
 }
@@ -286,23 +300,54 @@ fn other_strips(tally: &mut Tally, random: &mut Random) -> Result<(), String> {
     Ok(())
 }
 
-/// A bundle cut for a node and wanted for another, or for another scenario: also with field 02 as it is wanted, so that
-/// the strips alone differ.
-fn other_nodes_and_scenarios(tally: &mut Tally, random: &mut Random) -> Result<(), String> {
+/// Puts what is wanted into field 02 of a bundle.
+pub fn put_lost_field(wanted: &Wanted, bundle: &mut [u8]) {
+    bundle[12] = wanted.lost as u8;
+    bundle[13..19].copy_from_slice(&wanted.recording.bytes());
+}
+
+/// Runs other than this recording's, also such as a wrong comparison could take for it: one bit changed, the two bytes
+/// exchanged, either half of the scenario.
+pub fn other_runs(recording: Recording, random: &mut Random) -> Vec<u16> {
+    let Recording { scenario, run } = recording;
+    let any = random.number() as u16;
+    let mut runs: Vec<u16> = (0..16).map(|bit| run ^ 1 << bit).collect();
+    runs.extend([run.swap_bytes(), scenario as u16, (scenario >> 16) as u16, !run, any]);
+    runs.extend([run.wrapping_add(1), run.wrapping_sub(1)]);
+    runs.extend(EDGES_OF_RUNS);
+    runs.retain(|&other| other != run);
+    runs
+}
+
+/// Recordings other than this one: in the scenario alone, in the run alone, in both; also with the same six bytes, but
+/// the run's before the scenario's.
+fn other_recordings(recording: Recording, random: &mut Random) -> Vec<Recording> {
+    let Recording { scenario, run } = recording;
+    let any = random.number() as u32;
+    let runs = other_runs(recording, random);
+    let scenarios = [scenario ^ 1, scenario ^ 1 << 31, scenario ^ 1 << 8, scenario.swap_bytes(), !scenario, any];
+    let run_first = Recording { scenario: u32::from(run) << 16 | scenario >> 16, run: scenario as u16 };
+
+    let mut all = scenarios.map(|scenario| Recording { scenario, run }).to_vec();
+    all.extend(scenarios.map(|scenario| Recording { scenario, run: random.one_of(&runs) }));
+    all.extend(runs.iter().map(|&run| Recording { scenario, run }));
+    all.push(run_first);
+    all.retain(|&other| other != recording);
+    all
+}
+
+/// A bundle cut for a node and wanted for another, or for another recording: also with field 02 as it is wanted, so
+/// that the strips alone differ.
+fn other_nodes_and_recordings(tally: &mut Tally, random: &mut Random) -> Result<(), String> {
     for cut in every_lost_node(random) {
         let bundle = random_bundle(&cut, random);
-        let scenario = cut.scenario;
-        let any = random.number() as u32;
-        let scenarios = [scenario ^ 1, scenario ^ 1 << 31, scenario ^ 1 << 8, scenario.swap_bytes(), !scenario, any];
-        let nodes = (0..cut.profile.n).map(|lost| Wanted { lost, ..cut });
-        for wanted in nodes.chain(scenarios.map(|scenario| Wanted { scenario, ..cut })) {
+        let nodes = (0..cut.profile.n).filter(|&lost| lost != cut.lost).map(|lost| Wanted { lost, ..cut });
+        let recordings = other_recordings(cut.recording, random).into_iter();
+        for wanted in nodes.chain(recordings.map(|recording| Wanted { recording, ..cut })) {
             let mut patched = bundle.clone();
-            patched[12] = wanted.lost as u8;
-            patched[13..17].copy_from_slice(&wanted.scenario.to_be_bytes());
+            put_lost_field(&wanted, &mut patched);
             for bundle in [bundle.clone(), patched] {
-                if wanted != cut {
-                    tally.compare(Case::fitting(wanted, bundle, random), random)?;
-                }
+                tally.compare(Case::fitting(wanted, bundle, random), random)?;
             }
         }
     }
@@ -346,7 +391,7 @@ fn some_bytes_changed(tally: &mut Tally, random: &mut Random) -> Result<(), Stri
             let mut bundle = random_bundle(&wanted, random);
             for _ in 0..random.between(1, 3) {
                 let field = wanted.strip_field_start(random.between(0, wanted.places().len() - 1));
-                let (in_head, in_field) = (random.between(0, 16), field + random.between(0, 8));
+                let (in_head, in_field) = (random.between(0, 18), field + random.between(0, 10));
                 let anywhere = random.between(0, bundle.len() - 1);
                 let at = random.one_of(&[in_head, in_field, in_field, in_field, in_field, anywhere]);
                 bundle[at] ^= random.between(1, 255) as u8;
@@ -380,10 +425,11 @@ fn every_length(wanted: Wanted, tally: &mut Tally, random: &mut Random) -> Resul
     Ok(())
 }
 
-/// All small numbers, and every mixture of refusals 1, 2, 3, 4 and 5, also of none, with bundles that are in order and others.
+/// All small numbers, and every mixture of refusals 1, 2, 3, 4 and 5, also of none, with bundles that are in order and
+/// others.
 fn every_number(tally: &mut Tally, random: &mut Random) -> Result<(), String> {
     for (profile, lost) in small_and_refused_numbers(random) {
-        every_length(Wanted { profile, lost, scenario: random_scenario(random) }, tally, random)?;
+        every_length(Wanted { profile, lost, recording: random_recording(random) }, tally, random)?;
     }
     Ok(())
 }
@@ -394,7 +440,7 @@ fn mixed_calls(tally: &mut Tally, random: &mut Random) -> Result<(), String> {
     for _ in 0..100_000 {
         let (n, k, rows) = random.one_of(&accepted);
         let profile = Profile { s: random.between(1, 4), ..random_profile(n, k, rows, random) };
-        let cut = Wanted { profile, lost: random.between(0, n - 1), scenario: random_scenario(random) };
+        let cut = Wanted { profile, lost: random.between(0, n - 1), recording: random_recording(random) };
         let mut wanted = cut;
         let mut bundle = random_bundle(&cut, random);
         let mut column_length = profile.column_length();
@@ -405,7 +451,7 @@ fn mixed_calls(tally: &mut Tally, random: &mut Random) -> Result<(), String> {
                 1 => column_length = random.one_of(&[profile.column_length() - 1, profile.column_length() + 1]),
                 2 => bundle[random.one_of(&[0, 1, 2, 9, 10, 11])] ^= 1,
                 3 => bundle[cut.strip_field_start(strip) + random.between(0, 2)] ^= 1,
-                4 => bundle[random.one_of(&[3, 4, 5, 6, 7, 8, 12, 13, 14, 15, 16])] ^= 1,
+                4 => bundle[random.one_of(&[3, 4, 5, 6, 7, 8, 12, 13, 14, 15, 16, 17, 18])] ^= 1,
                 5 | 6 => misplace(&cut, &mut bundle, random.between(strip, cut.places().len() - 1), random),
                 _ => make_stale(&cut, &mut bundle, random.between(0, strip), random),
             }

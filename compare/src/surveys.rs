@@ -2,7 +2,7 @@
 
 use crate::calls::{self, random_profile, replace_number, small_and_refused_numbers, Tally, HUGE, OFTEN};
 use crate::code::{self, Profile, Refusal};
-use crate::download::Wanted;
+use crate::download::{Recording, Wanted};
 use crate::generator::{self, Found, Sets, Survey};
 use crate::library::{self, Lent, SurveyAnswer};
 use crate::random::Random;
@@ -257,7 +257,7 @@ fn any_most(profile: &Profile, start: usize, surveys: &mut Surveys, random: &mut
 }
 
 fn small_like(profile: &Profile) -> Profile {
-    calls::small_like(&Wanted { profile: *profile, lost: 0, scenario: 0 }).profile
+    calls::small_like(&Wanted { profile: *profile, lost: 0, recording: Recording::default() }).profile
 }
 
 /// All small numbers, and every mixture of refusals 1, 2, 3, 4 and 5, also of none.
