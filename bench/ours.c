@@ -3,7 +3,7 @@
 
 #include "bench.h"
 
-enum { SCENARIO = 7, RUN = 2 };
+enum { SCENARIO = 7, SCENARIO_RUN = 2 };
 
 static uint8_t bundle[NODES][WHAUPFIELD_MAX_BUNDLE];
 static size_t bundle_length;
@@ -25,8 +25,8 @@ void prepare_ours(void)
 
     bundle_length = whaupfield_bundle_length(*p);
     for (size_t node = 0; node < p->n; node++)
-        whaupfield_write_bundle(WHAUPFIELD_PROFILE(*p), node, SCENARIO, RUN, setup.array, whaupfield_array_length(*p),
-                                bundle[node], bundle_length);
+        whaupfield_write_bundle(WHAUPFIELD_PROFILE(*p), node, SCENARIO, SCENARIO_RUN, setup.array,
+                                whaupfield_array_length(*p), bundle[node], bundle_length);
     for (int list = 0; list < LISTS; list++)
         join(columns[list], setup.array, setup.kept[list]);
 }
@@ -45,7 +45,7 @@ static uint64_t rebuild_node(size_t node)
 {
     const struct whaupfield_profile *p = &setup.p;
 
-    return whaupfield_rebuild(WHAUPFIELD_PROFILE(*p), node, SCENARIO, RUN, bundle[node], bundle_length, column,
+    return whaupfield_rebuild(WHAUPFIELD_PROFILE(*p), node, SCENARIO, SCENARIO_RUN, bundle[node], bundle_length, column,
                               whaupfield_column_length(*p));
 }
 

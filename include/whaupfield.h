@@ -11,16 +11,17 @@
  * Numbers are size_t, so that none is cut down on its way: t = 258 is refused and not taken for 2. A scenario is a
  * uint32_t, a run a uint16_t, and a number in a node list a byte: there C cuts a wider number down, without a warning
  * unless the compiler is asked for one (-Wconversion), and the call cannot see it. Compare a wider scenario with
- * UINT32_MAX first, and a wider run, or one that is counted up, with UINT16_MAX: run 65536 would be taken for run 0.
+ * UINT32_MAX first and a wider run with UINT16_MAX: run 65536 would be taken for run 0.
  *
  * A profile is n (nodes), k (data nodes), a (rows), t (coupling constant), s (strip length in bytes). Nodes and rows
  * count from 0. In memory the strip of row i, node j starts at (j*a + i) * s, so a node's column is its a strips, row 0
  * first; data use the same order with j < k.
  *
- * A recording is a scenario and a run of it: two runs of one scenario are two recordings, and their strips do not pass
- * together. The host gives each run a number of its own. One call is about one array. A recording of more data than an
- * array holds is many arrays, and nothing in a bundle tells two arrays of one recording apart: the host keeps them
- * apart.
+ * A recording is a scenario and a run of it: two runs of one scenario are two recordings, and in one bundle their
+ * strips do not pass together. The host gives each run a number of its own. Only a bundle's fields carry a recording:
+ * arrays and columns are bare bytes, and no call can see of which recording they are. One call is about one array. A
+ * recording of more data than an array holds is many arrays, and nothing in a bundle tells two arrays of one recording
+ * apart: the host keeps them apart.
  *
  * Answers, the same for every call that takes a profile: WHAUPFIELD_NUMBER is 0 on success, otherwise the number of the
  * refusal; WHAUPFIELD_VALUE is what comes with it. On success each call below says what that is. With

@@ -9,7 +9,7 @@
 enum { NODES = WHAUPFIELD_MAX_NODES, COLUMN = WHAUPFIELD_MAX_ROWS * WHAUPFIELD_MAX_STRIP, LOST = 1, SETS = 20 };
 
 /* The recording. */
-enum { SCENARIO = 7, RUN = 2 };
+enum { SCENARIO = 7, SCENARIO_RUN = 2 };
 
 static const struct whaupfield_profile profiles[] = {{14, 10, 2, 2, 0}, {12, 8, 4, 2, 0}, {24, 20, 4, 2, 0}};
 
@@ -36,15 +36,15 @@ static uint64_t encode(size_t call)
 
 static uint64_t write_bundle(void)
 {
-    return whaupfield_write_bundle(WHAUPFIELD_PROFILE(p), LOST, SCENARIO, RUN, array, whaupfield_array_length(p),
-                                   bundle, whaupfield_bundle_length(p));
+    return whaupfield_write_bundle(WHAUPFIELD_PROFILE(p), LOST, SCENARIO, SCENARIO_RUN, array,
+                                   whaupfield_array_length(p), bundle, whaupfield_bundle_length(p));
 }
 
 static uint64_t rebuild(size_t call)
 {
     (void)call;
-    return whaupfield_rebuild(WHAUPFIELD_PROFILE(p), LOST, SCENARIO, RUN, bundle, whaupfield_bundle_length(p), column,
-                              whaupfield_column_length(p));
+    return whaupfield_rebuild(WHAUPFIELD_PROFILE(p), LOST, SCENARIO, SCENARIO_RUN, bundle,
+                              whaupfield_bundle_length(p), column, whaupfield_column_length(p));
 }
 
 static uint64_t read_back(size_t call)

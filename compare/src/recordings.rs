@@ -1,4 +1,4 @@
-//! The kinds about two recordings in one rebuild, and about bundles of the form before K2. Each bundle is made so that its
+//! The kinds about two runs in one bundle, and about bundles of the form before K2. Each bundle is made so that its
 //! answer is known.
 
 use crate::bundles::SAMPLE_WANTED;

@@ -1,4 +1,5 @@
 -- `rebuild_answer::recording` meets its contract: four bytes and two, high byte first.
+use mathlib.Core.Path.{refl}
 use Rattle.document.specs.Program.{wantedRecording}
 use borrow.Author.Needs.{needs}
 use Rattle.rebuild_answer.proofs.recording.Statement.{statement}
@@ -9,7 +10,7 @@ unfolding wantedRecording
 returns c =
     let t = c .before .before in
     let b = t .before .before in
-    simp (
+    rw (
       b .before .byte-in .ensures,
       b .byte-in2 .ensures,
       t .before .byte-in3 .ensures,
@@ -17,6 +18,7 @@ returns c =
       c .before .byte-in5 .ensures,
       c .byte-in6 .ensures,
     )
+    refl
 
 pub recording-spec : {M : Type 1} → statement M
 recording-spec =
