@@ -104,13 +104,18 @@ fn choices(count: usize, random: &mut Random) -> Vec<u64> {
     (0..3 * (count + 1)).map(|at| ((random.number() | 1) << at / 3) % all).collect()
 }
 
+/// The same for another run, and a bundle of either.
+fn of_two_runs(wanted: &Wanted, random: &mut Random) -> (Wanted, Vec<u8>, Vec<u8>) {
+    let runs = other_runs(wanted.recording, random);
+    let other = wanted.with_run(random.one_of(&runs));
+    (other, random_bundle(wanted, random), random_bundle(&other, random))
+}
+
 /// K2: "We ran scenario 212 twice in one afternoon, and a rebuild mixed the two." Each accepted (n, k, A): the bundles
 /// of two runs mixed strip by strip, with the field 02 of the wanted run and with that of the other.
 fn mixed_runs(tally: &mut Tally, random: &mut Random) -> Result<(), String> {
     for wanted in every_shape(1..=4, random) {
-        let runs = other_runs(wanted.recording, random);
-        let other = wanted.with_run(random.one_of(&runs));
-        let (own, foreign) = (random_bundle(&wanted, random), random_bundle(&other, random));
+        let (other, own, foreign) = of_two_runs(&wanted, random);
         let count = wanted.places().len();
         for chosen in choices(count, random) {
             let is_foreign = |&index: &usize| chosen >> index & 1 == 1;
@@ -132,9 +137,7 @@ fn mixed_runs(tally: &mut Tally, random: &mut Random) -> Result<(), String> {
 /// other misplaced, which is 8; all of another run and one misplaced, which is 8 too, and 7 with field 02 of that run.
 fn runs_and_places(tally: &mut Tally, random: &mut Random) -> Result<(), String> {
     for wanted in every_shape(1..=3, random) {
-        let runs = other_runs(wanted.recording, random);
-        let other = wanted.with_run(random.one_of(&runs));
-        let (own, foreign) = (random_bundle(&wanted, random), random_bundle(&other, random));
+        let (_, own, foreign) = of_two_runs(&wanted, random);
         let count = wanted.places().len();
         for misplaced in 0..count {
             let mut in_all = foreign.clone();

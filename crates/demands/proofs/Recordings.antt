@@ -1,4 +1,4 @@
--- What K2 rules out: strips of two recordings in one rebuild, and bundles of the old form.
+-- What K2 rules out: strips of several recordings in one bundle, and bundles of the old form.
 use mathlib.Core.Path.{_≡_, sym, ap, ap₂, subst, _∙_}
 use mathlib.Core.Logic.{_≢_, inl, inr}
 use mathlib.Core.List.{List, [], _∷_}
@@ -7,7 +7,7 @@ use native.Mathlib.Nat.{add-zero, mul-le-mul}
 use native.Mathlib.Omega.{arith}
 use lib.ListN.{length, getD, drop}
 use Rattle.lists.specs.Put.{slice}
-use Rattle.lists.proofs.Slice.{slice-at, slice-part}
+use Rattle.lists.proofs.Slice.{slice-part}
 use Rattle.fields.specs.Fields.{twoBytes, fourBytes}
 use Rattle.document.specs.declared.Numbers.{Numbers}
 use Rattle.document.specs.declared.Profile.{Profile}
@@ -38,7 +38,7 @@ use Rattle.demands.specs.Recordings.{
 }
 use Rattle.demands.proofs.Tables.{in-order, NoneHolds, first-listed, first-past, only-listed, line-by-line}
 use Rattle.demands.proofs.Message.{AsWanted, wanted-none, place-is, numbers-read, recording-read}
-use Rattle.demands.proofs.Whole.{same-recording}
+use Rattle.demands.proofs.Whole.{same-recording, alike-slice}
 use Rattle.demands.proofs.Bundle.{cut-accepted, cut-below, cut-wanted}
 use Rattle.demands.proofs.Rebuild.{rebuild-call, is-wanted}
 
@@ -97,8 +97,7 @@ module _ (p : Numbers) (f : ℕ) where
         part o m fits = slice-part b c (at i) width o m (omega (arith, whole, room i P width l)) fits same
 
         entry : (o : ℕ) → o < width → getD b (at i + o) 0 ≡ getD c (at i + o) 0
-        entry o m =
-            sym (slice-at b (at i) width o m) ∙ ap (λ (v : List ℕ). getD v o 0) same ∙ slice-at c (at i) width o m
+        entry o m = alike-slice b c (at i) width same (at i + o) (omega arith) (omega arith)
 
         strip-opening : slice b (at i) 3 ≡ 3 ∷ twoBytes (8 + p .s)
         unfolding lostContent recordingBytes fourBytes twoBytes

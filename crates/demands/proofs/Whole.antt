@@ -119,7 +119,7 @@ module _ (x y : List ℕ) where
   alike-entry : (at : ℕ) → getD x at 0 ≡ getD y at 0 → Alike at (at + 1)
   alike-entry at same e low high = let here : e ≡ at = omega arith in rw here same
 
-  alike-slice : (at m : ℕ) → slice x at m ≡ slice y at m → Alike at (at + m)
+  pub alike-slice : (at m : ℕ) → slice x at m ≡ slice y at m → Alike at (at + m)
   alike-slice at m same e low high =
       let o : ℕ = e - at in
       let there : at + o ≡ e = omega arith in
