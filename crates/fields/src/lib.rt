@@ -2,7 +2,7 @@
 ghost use mathlib.Core.Path.{_≡_};
 ghost use Prim.Native.Nat.{_+_, _≤_};
 ghost use lib.ListN.{length};
-ghost use Rattle.lists.specs.Put.{Wrote};
+ghost use Rattle.lists.specs.Put.{slice, same, Wrote};
 ghost use Rattle.fields.specs.Fields.{twoBytes, fourBytes, opening, openingLength};
 
 // How many bytes a field's tag and length take.
@@ -35,4 +35,14 @@ pub fn put_opening(out: &mut [u8], at: usize, tag: u8, len: usize) -> usize
     let size = two_bytes(len);
     let bytes = [tag, size[0], size[1]];
     lists::put_bytes(out, at, &bytes)
+}
+
+// Whether the field that starts at `at` opens with this tag and this length.
+pub fn opens(b: &[u8], at: usize, tag: u8, len: usize) -> bool
+    requires { ⌜ at + openingLength ≤ length (now b) ⌝ }
+    ensures { λ r. ⌜ r ≡ same (slice (now (b .entry)) at openingLength) (opening tag len) ⌝ }
+{
+    let size = two_bytes(len);
+    let want = [tag, size[0], size[1]];
+    lists::same_at(b, at, &want)
 }

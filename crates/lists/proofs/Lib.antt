@@ -8,6 +8,7 @@ pub mod Rising
 pub mod Slice
 pub mod Some
 pub mod Once
+pub mod Around
 pub mod Same
 pub mod Parts
 pub mod Positions

@@ -1,9 +1,9 @@
 -- A list that lists each number below n for which P holds once: its entries pass and differ, none is missing, and there
--- are as many as there are in the rising list, which is one such list.
+-- are as many as there are in the rising list, which is one such list, and so is one by another order of the numbers.
 use mathlib.Core.Path.{_≡_, refl, sym, ap, ap₂, _∙_}
 use mathlib.Core.Logic.{_≢_}
 use mathlib.Core.Bool.{Bool, true, false, _&&_, cond}
-use mathlib.Core.List.{List, [], _∷_, _++_}
+use mathlib.Core.List.{List, [], _∷_, _++_, map}
 use Prim.Native.Nat.{ℕ, zero, suc, _+_, _≤_, _<_}
 use native.Mathlib.Nat.{zero-add, add-zero, add-assoc, not-suc-le-zero}
 use native.Mathlib.Decide.{ℕ-discrete, decLt}
@@ -11,9 +11,9 @@ use native.Mathlib.Omega.{arith}
 use lib.Dec.{eqb, ltb}
 use lib.ListN.{length, getD}
 use borrow.Author.Tests.{ltb-true, lt-ltb, le-ltb, eq-eqb, ne-eqb}
-use Rattle.lists.specs.Listed.{rising}
+use Rattle.lists.specs.Listed.{rising, along}
 use Rattle.lists.specs.Each.{Each, none, also, Distinct, empty, new, occurrences, ListsOnce}
-use Rattle.lists.proofs.Each.{each-map}
+use Rattle.lists.proofs.Each.{each-map, each-image}
 use Rattle.lists.proofs.Rising.{count-next, count-one}
 
 -- ---- how often a number stands in a list
@@ -149,3 +149,41 @@ rising-once (suc n) P j =
     go (yes e) d = rw e (simp (le-ltb n n (omega arith), eq-eqb n n refl, lt-ltb n (suc n) (omega arith)) (omega arith))
     go (no e) (yes d) = simp (lt-ltb j n d, ne-eqb j n e, lt-ltb j (suc n) (omega arith)) (omega arith)
     go (no e) (no d) = simp (le-ltb j n (omega arith), ne-eqb j n e, le-ltb j (suc n) (omega arith))
+
+-- ---- the same in another order
+-- j does not stand in a list of other numbers
+other-numbers : (j : ℕ) {xs : List ℕ} → Each (λ y. j ≢ y) xs → occurrences j xs ≡ 0
+unfolding occurrences
+other-numbers j none = refl
+other-numbers j (also {x = x} {xs = xs} h hs) = occurrences-other j x xs h ∙ other-numbers j hs
+
+-- the image by a function g that h takes back
+occurrences-image : (g h : ℕ → ℕ) {xs : List ℕ} → Each (λ i. h (g i) ≡ i) xs → (j : ℕ) → g (h j) ≡ j
+    → occurrences j (map g xs) ≡ occurrences (h j) xs
+unfolding occurrences
+occurrences-image g h none j there = refl
+occurrences-image g h (also {x = x} back backs) j there =
+    ap₂ (λ (b : Bool) (m : ℕ). cond b 1 0 + m) (go (ℕ-discrete j (g x))) (occurrences-image g h backs j there)
+  where
+    go : Dec (j ≡ g x) → eqb j (g x) ≡ eqb (h j) x
+    go (yes e) = eq-eqb j (g x) e ∙ sym (eq-eqb (h j) x (ap h e ∙ back))
+    go (no e) = ne-eqb j (g x) e ∙ sym (ne-eqb (h j) x (λ d. e (sym there ∙ ap g d)))
+
+-- g goes over the numbers below n, and h takes it back
+pub along-once : (n : ℕ) (g h : ℕ → ℕ) (P : ℕ → Bool) → ((i : ℕ) → i < n → (g i < n) × (h (g i) ≡ i))
+    → ((j : ℕ) → j < n → (h j < n) × (g (h j) ≡ j)) → ListsOnce n P (along n g P)
+unfolding along
+along-once n g h P back there j = go (decLt j n)
+  where
+    numbers : Each (λ i. i < n) (rising n (λ i. P (g i)))
+    numbers =
+        each-map (λ i r. r .1) (once-each n (λ i. P (g i)) (rising n (λ i. P (g i))) (rising-once n (λ i. P (g i))))
+
+    go : Dec (j < n) → occurrences j (map g (rising n (λ i. P (g i)))) ≡ cond (ltb j n && P j) 1 0
+    go (yes l) =
+        occurrences-image g h (each-map (λ i below. back i below .1) numbers) j (there j l .1)
+        ∙ rising-once n (λ i. P (g i)) (h j)
+        ∙ simp (lt-ltb (h j) n (there j l .0), there j l .1, lt-ltb j n l)
+    go (no l) =
+        other-numbers j (each-image g (λ i below e. l (rw e (back i below .0))) numbers)
+        ∙ sym (simp (le-ltb j n (omega arith)))
