@@ -1,4 +1,4 @@
-/* The array store's functions for a C host. Version 0.3.0, before the first release: names, parameters and answers may
+/* The array store's functions for a C host. Version 0.4.0, before the first release: names, parameters and answers may
  * change, and docs/changes has a page for each request that changed some.
  *
  * Every function takes plain numbers and buffers that the caller owns. A buffer is a pointer and, after it, its length
@@ -13,9 +13,15 @@
  * unless the compiler is asked for one (-Wconversion), and the call cannot see it. Compare a wider scenario with
  * UINT32_MAX first and a wider run with UINT16_MAX: run 65536 would be taken for run 0.
  *
- * A profile is n (nodes), k (data nodes), a (rows), t (coupling constant), s (strip length in bytes). Nodes and rows
- * count from 0. In memory the strip of row i, node j starts at (j*a + i) * s, so a node's column is its a strips, row 0
- * first; data use the same order with j < k.
+ * A profile is n (nodes), k (data nodes), a (rows), t (coupling constant), s (strip length in bytes) and its edition, 1
+ * or 2. Nodes and rows count from 0. In memory the strip of row i, node j starts at (j*a + i) * s, so a node's column
+ * is its a strips, row 0 first; data use the same order with j < k.
+ *
+ * The edition says which nodes a plan reads and how a bundle begins, and nothing else: arrays, data, readings and
+ * surveys are the same in both. Edition 1 takes the nodes of steps 2 and 3 rising from node 0, so that low-numbered
+ * drives are read most; edition 2 takes them from the node after the lost one, rising and wrapping past n-1 to 0, so
+ * that the load is spread (docs/LOAD.md). Both read as many places. A bundle is rebuilt with the edition that it was
+ * written with; with the other one it is refused with 6. Use 2 for what is new, and 1 for bundles kept from before.
  *
  * A recording is a scenario and a run of it: two runs of one scenario are two recordings, and in one bundle their
  * strips do not pass together. The host gives each run a number of its own. Only a bundle's fields carry a recording:
@@ -26,11 +32,13 @@
  * Answers, the same for every call that takes a profile: WHAUPFIELD_NUMBER is 0 on success, otherwise the number of the
  * refusal; WHAUPFIELD_VALUE is what comes with it. On success each call below says what that is. With
  * WHAUPFIELD_MISPLACED and WHAUPFIELD_STALE it is the index of the first such strip, from 0 in plan order, with any
- * other refusal 0. The lowest number that applies is the answer: a misplaced strip goes before a stale one, wherever
- * they stand. docs/OPERATOR.md says what to do about each refusal.
+ * other refusal 0. The refusals are tried in the order 1, 2, 3, 13, 4, 5 and then 6 to 10, and the first that applies
+ * is the answer: a misplaced strip goes before a stale one, wherever they stand. docs/OPERATOR.md says what to do about
+ * each refusal.
  *
  * A bundle is fields of a one-byte tag, a two-byte length and content, all numbers high byte first:
- *   01 00 06  n, k, a, t, s in two bytes
+ *   01 00 06  n, k, a, t, s in two bytes: edition 1
+ *   01 00 07  n, k, a, t, s in two bytes, 02: edition 2
  *   02 00 07  lost node, scenario in four bytes, run in two
  *   03 and the length 8 + s, once for each place of the plan, in its order: node, row, scenario in four bytes, run in
  *             two, strip
@@ -47,9 +55,9 @@
 #include <stdint.h>
 
 #define WHAUPFIELD_VERSION_MAJOR 0
-#define WHAUPFIELD_VERSION_MINOR 3
+#define WHAUPFIELD_VERSION_MINOR 4
 #define WHAUPFIELD_VERSION_PATCH 0
-#define WHAUPFIELD_VERSION "0.3.0"
+#define WHAUPFIELD_VERSION "0.4.0"
 
 #define WHAUPFIELD_NUMBER(answer) ((unsigned)((uint64_t)(answer) & 0xFF))
 #define WHAUPFIELD_VALUE(answer) ((uint64_t)(answer) >> 8)
@@ -67,6 +75,7 @@ enum whaupfield_refusal {
     WHAUPFIELD_SHAPE = 1,
     WHAUPFIELD_CONSTANT = 2,
     WHAUPFIELD_STRIP_LENGTH = 3,
+    WHAUPFIELD_EDITION = 13,
     WHAUPFIELD_OUT_OF_RANGE = 4,
     WHAUPFIELD_BUFFER_LENGTH = 5,
     WHAUPFIELD_FORM = 6,
@@ -87,6 +96,7 @@ static inline const char *whaupfield_refusal_name(unsigned number)
     case WHAUPFIELD_SHAPE: return "WHAUPFIELD_SHAPE";
     case WHAUPFIELD_CONSTANT: return "WHAUPFIELD_CONSTANT";
     case WHAUPFIELD_STRIP_LENGTH: return "WHAUPFIELD_STRIP_LENGTH";
+    case WHAUPFIELD_EDITION: return "WHAUPFIELD_EDITION";
     case WHAUPFIELD_OUT_OF_RANGE: return "WHAUPFIELD_OUT_OF_RANGE";
     case WHAUPFIELD_BUFFER_LENGTH: return "WHAUPFIELD_BUFFER_LENGTH";
     case WHAUPFIELD_FORM: return "WHAUPFIELD_FORM";
@@ -98,7 +108,7 @@ static inline const char *whaupfield_refusal_name(unsigned number)
     }
 }
 
-/* When a call answers with this number: exactly then, if none with a lower number applies. */
+/* When a call answers with this number: exactly then, if none that is tried before it applies. */
 static inline const char *whaupfield_refusal_sentence(unsigned number)
 {
     switch (number) {
@@ -107,6 +117,7 @@ static inline const char *whaupfield_refusal_sentence(unsigned number)
         return "n, k or a is not accepted; accepted are k >= 1, n > k, 2 <= a <= 4, a <= n-k, a divides n, n <= 24";
     case WHAUPFIELD_CONSTANT: return "t is not in 2..255";
     case WHAUPFIELD_STRIP_LENGTH: return "s is 0 or above 512";
+    case WHAUPFIELD_EDITION: return "the edition is not 1 or 2";
     case WHAUPFIELD_OUT_OF_RANGE:
         return "the lost node is not below n, the node list is not k strictly rising numbers below n, "
                "or the survey's start is above the number of sets";
@@ -132,16 +143,17 @@ static inline const char *whaupfield_refusal_sentence(unsigned number)
 #define WHAUPFIELD_MAX_DATA ((WHAUPFIELD_MAX_NODES - WHAUPFIELD_MAX_ROWS) * WHAUPFIELD_MAX_COLUMN)
 #define WHAUPFIELD_MAX_ARRAY (WHAUPFIELD_MAX_NODES * WHAUPFIELD_MAX_COLUMN)
 #define WHAUPFIELD_MAX_PLAN (2 * WHAUPFIELD_MAX_PLACES)
-#define WHAUPFIELD_MAX_BUNDLE (19 + WHAUPFIELD_MAX_PLACES * (11 + WHAUPFIELD_MAX_STRIP))
+#define WHAUPFIELD_MAX_BUNDLE (20 + WHAUPFIELD_MAX_PLACES * (11 + WHAUPFIELD_MAX_STRIP))
 
 /* A profile's numbers, and how they are handed to a call: whaupfield_plan(WHAUPFIELD_PROFILE(p), ..). The macro names p
  * once for each number. A number that a later version adds to a profile is added in these two places, and a call that
- * is written so stays as it is. */
+ * is written so stays as it is. What sets the members must still set the new one: up to version 0.3.0 there was no
+ * edition, and an initializer of five numbers leaves it 0, which every call refuses with 13. */
 struct whaupfield_profile {
-    size_t n, k, a, t, s;
+    size_t n, k, a, t, s, edition;
 };
 
-#define WHAUPFIELD_PROFILE(p) (p).n, (p).k, (p).a, (p).t, (p).s
+#define WHAUPFIELD_PROFILE(p) (p).n, (p).k, (p).a, (p).t, (p).s, (p).edition
 
 /* The lengths of a profile's buffers in bytes, and the number of places of its plans. A node list and a survey's set
  * have k bytes. For a profile that is not accepted they give some number or other; a call refuses such a profile
@@ -178,9 +190,12 @@ static inline size_t whaupfield_plan_length(struct whaupfield_profile p)
     return 2 * whaupfield_places(p);
 }
 
+/* Field 01 has a last byte for the edition, but for edition 1. */
 static inline size_t whaupfield_bundle_length(struct whaupfield_profile p)
 {
-    return 19 + whaupfield_places(p) * (11 + p.s);
+    size_t head = p.edition == 1 ? 19 : 20;
+
+    return head + whaupfield_places(p) * (11 + p.s);
 }
 
 #ifdef __cplusplus
@@ -188,39 +203,41 @@ extern "C" {
 #endif
 
 /* Encode: writes to array the encoded array of the data; both buffers have exactly their profile's length. Value 0.
- * Refused with 1, 2, 3 or 5. */
-uint64_t whaupfield_encode(size_t n, size_t k, size_t a, size_t t, size_t s,
+ * Refused with 1, 2, 3, 13 or 5. */
+uint64_t whaupfield_encode(size_t n, size_t k, size_t a, size_t t, size_t s, size_t edition,
                            const uint8_t *data, size_t data_length,
                            uint8_t *array, size_t array_length);
 
 /* Plan: writes to places the places that are read to rebuild the lost node, two bytes each, node first, then row. The
  * buffer may be longer, and bytes past the plan stay; a shorter one is 5; WHAUPFIELD_MAX_PLAN bytes hold any plan.
- * Value: the number of places. Refused with 1 to 5. Other libraries call it the fragments needed. */
-uint64_t whaupfield_plan(size_t n, size_t k, size_t a, size_t t, size_t s, size_t lost,
-                         uint8_t *places, size_t places_length);
+ * Value: the number of places. Refused with 1, 2, 3, 13, 4 or 5. Other libraries call it the fragments needed. */
+uint64_t whaupfield_plan(size_t n, size_t k, size_t a, size_t t, size_t s, size_t edition,
+                         size_t lost, uint8_t *places, size_t places_length);
 
 /* Write bundle: writes to bundle the bundle for rebuilding the lost node, cut from a stored array, with this scenario
  * and run in field 02 and in every strip's field. Both buffers have exactly their profile's length. Only the planned
- * places are read, so the lost column may hold anything. Value: the bundle's length. Refused with 1, 2, 3, 4 or 5. */
-uint64_t whaupfield_write_bundle(size_t n, size_t k, size_t a, size_t t, size_t s, size_t lost,
-                                 uint32_t scenario, uint16_t run,
+ * places are read, so the lost column may hold anything. Value: the bundle's length. Refused with 1, 2, 3, 13, 4 or
+ * 5. */
+uint64_t whaupfield_write_bundle(size_t n, size_t k, size_t a, size_t t, size_t s, size_t edition,
+                                 size_t lost, uint32_t scenario, uint16_t run,
                                  const uint8_t *array, size_t array_length,
                                  uint8_t *bundle, size_t bundle_length);
 
 /* Rebuild: writes to column the lost node's column, row 0 first, from a bundle for the wanted profile, node, scenario
  * and run. The bundle may be any bytes of any length: one that is not in order is 6, 7, 8 or 9, never 5. A buffer of
- * another length than a column's is 5. Value 0. Refused with 1 to 9. Other libraries call it reconstruct. */
-uint64_t whaupfield_rebuild(size_t n, size_t k, size_t a, size_t t, size_t s, size_t lost,
-                            uint32_t scenario, uint16_t run,
+ * another length than a column's is 5. Value 0. Refused with 1, 2, 3, 13 or 4 to 9. Other libraries call it
+ * reconstruct. */
+uint64_t whaupfield_rebuild(size_t n, size_t k, size_t a, size_t t, size_t s, size_t edition,
+                            size_t lost, uint32_t scenario, uint16_t run,
                             const uint8_t *bundle, size_t bundle_length,
                             uint8_t *column, size_t column_length);
 
 /* Read back: writes to output the data, from the columns of k named nodes. nodes holds their k numbers, one byte each,
  * strictly rising; columns holds the nodes' columns joined in the order of the list, as many bytes as the data. If the
  * nodes are not refused with 10, any bytes of that length are the columns of exactly one recording's data; whether they
- * are refused depends on the profile and the list alone. Value 0. Refused with 1, 2, 3, 4, 5 or 10; a list of another
- * length than k is 4. Other libraries call it decode. */
-uint64_t whaupfield_read_back(size_t n, size_t k, size_t a, size_t t, size_t s,
+ * are refused depends on the profile and the list alone. Value 0. Refused with 1, 2, 3, 13, 4, 5 or 10; a list of
+ * another length than k is 4. Other libraries call it decode. */
+uint64_t whaupfield_read_back(size_t n, size_t k, size_t a, size_t t, size_t s, size_t edition,
                               const uint8_t *nodes, size_t nodes_length,
                               const uint8_t *columns, size_t columns_length,
                               uint8_t *output, size_t output_length);
@@ -234,9 +251,10 @@ uint64_t whaupfield_read_back(size_t n, size_t k, size_t a, size_t t, size_t s,
  * WHAUPFIELD_LOOKED is the number of sets looked at, the failing one counted. Done says that every set from start on
  * can be read back from: every set of all if start is 0, or if it was reached from 0 by surveys that were all open,
  * each gone on with where it stopped. s must be accepted but changes nothing. set has k bytes. `most` may be more than
- * are left: SIZE_MAX looks at all. start may be the number of sets: done, 0 looked at. Refused with 1, 2, 3, 4 or 5. */
-uint64_t whaupfield_survey(size_t n, size_t k, size_t a, size_t t, size_t s, size_t start, size_t most,
-                           uint8_t *set, size_t set_length);
+ * are left: SIZE_MAX looks at all. start may be the number of sets: done, 0 looked at. Refused with 1, 2, 3, 13, 4 or
+ * 5. */
+uint64_t whaupfield_survey(size_t n, size_t k, size_t a, size_t t, size_t s, size_t edition,
+                           size_t start, size_t most, uint8_t *set, size_t set_length);
 
 /* The product of two bytes in the field of 0x11D. */
 uint8_t whaupfield_product(uint8_t a, uint8_t b);

@@ -27,7 +27,7 @@ const LOST: usize = 1 + Recording::BYTES;
 
 // The length of the longest bundle.
 pub const LONGEST: usize = OPENING
-    + message::PROFILE
+    + profile_field::MAX_CONTENT
     + (OPENING + LOST)
     + MAX_PLACES * (OPENING + message::PLACED + Profile::MAX_STRIP);
 

@@ -8,7 +8,7 @@ use borrow.Author.Tests.{not-false}
 use Rattle.document.specs.declared.Numbers.{Numbers}
 use Rattle.document.specs.declared.Profile.{Profile}
 use Rattle.document.specs.declared.Refusal.{Refusal}
-use Rattle.document.specs.declared.Refusal.the-variants.{Shape, Constant, StripLength}
+use Rattle.document.specs.declared.Refusal.the-variants.{Shape, Constant, StripLength, Edition}
 use Rattle.document.specs.declared.Checked.{Checked}
 use Rattle.document.specs.declared.Checked.the-variants.{Passed, Rejected}
 use Rattle.document.specs.Refusals.{Test, tried, Decides}
@@ -21,6 +21,7 @@ use Rattle.document.specs.Profile.{
   shapeAccepted,
   constantAccepted,
   stripAccepted,
+  editionAccepted,
   profileTests,
   profileOf,
   onAccepted,
@@ -68,6 +69,10 @@ pub decides-strip : (S : ℕ) → Decides (stripAccepted S) ((1 ≤ S) × (S ≤
 unfolding stripAccepted
 decides-strip S = decides-both (leb 1 S) (leb S maxStrip) (decides-le 1 S) (decides-le S maxStrip)
 
+pub decides-edition : (e : ℕ) → Decides (editionAccepted e) ((1 ≤ e) × (e ≤ 2))
+unfolding editionAccepted
+decides-edition e = decides-both (leb 1 e) (leb e 2) (decides-le 1 e) (decides-le e 2)
+
 -- where all else is accepted, the number of nodes decides
 pub shape-left : (n k A : ℕ) → (n ≤ maxNodes → ShapeAccepted n k A) → shapeAccepted n k A ≡ leb n maxNodes
 shape-left n k A h = go (leb n maxNodes) (decides-le n maxNodes)
@@ -92,22 +97,30 @@ module _ (p : Numbers) where
       unfolding checkedOf onAccepted profileTests tried
       strip-refused e = simp (shape, constant, e)
 
-      pub none-refused : stripAccepted (p .s) ≡ true → checkedOf p ≡ Passed (profileOf p)
-      unfolding checkedOf onAccepted profileTests tried
-      none-refused e = simp (shape, constant, e)
+      module _ (strip : stripAccepted (p .s) ≡ true) where
+        pub edition-refused : editionAccepted (p .edition) ≡ false → checkedOf p ≡ Rejected Edition
+        unfolding checkedOf onAccepted profileTests tried
+        edition-refused e = simp (shape, constant, strip, e)
+
+        pub none-refused : editionAccepted (p .edition) ≡ true → checkedOf p ≡ Passed (profileOf p)
+        unfolding checkedOf onAccepted profileTests tried
+        none-refused e = simp (shape, constant, strip, e)
 
 -- ---- the head of a call
 -- Numbers that none of the tests refuses are an accepted profile.
 pub failed-accepted : (p : Numbers) → Failed (profileTests p) → Accepted (profileOf p)
 unfolding profileTests
-failed-accepted p (shape, (constant, (strip, _))) =
+failed-accepted p (shape, (constant, (strip, (edition, _)))) =
     let t = decides-constant (p .t) .0 (not-false _ constant) in
-    let s = decides-strip (p .s) .0 (not-false _ strip) in record {
+    let s = decides-strip (p .s) .0 (not-false _ strip) in
+    let e = decides-edition (p .edition) .0 (not-false _ edition) in record {
       shape = decides-shape (p .n) (p .k) (p .a) .0 (not-false _ shape);
       above-one = t .0;
       one-byte = t .1;
       some-bytes = s .0;
       short = s .1;
+      first-edition = e .0;
+      last-edition = e .1;
     }
 
 -- what a call makes of the outcome of `Profile::new`

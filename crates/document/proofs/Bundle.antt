@@ -21,7 +21,7 @@ use Rattle.document.specs.Bundle.{lostContent, lostContentLength, bundle
 use Rattle.document.proofs.Bounds.{strip-within}
 use Rattle.document.proofs.Price.{few-places}
 use Rattle.document.proofs.Chosen.{plan-within}
-use Rattle.document.proofs.Message.{recording-length, Whole, message-length}
+use Rattle.document.proofs.Message.{recording-length, profile-short, Whole, message-length}
 
 pub lost-length : (f : Node) (r : Recording) → length (lostContent f r) ≡ lostContentLength
 unfolding lostContent
@@ -33,7 +33,7 @@ bundle-bound p acc f h =
     let fields : length (planned p f) * stripFieldLength (p .s) ≤ maxPlaces * stripFieldLength maxStrip =
     mul-le-mul {n₁ = length (planned p f)} {m₁ = stripFieldLength (p .s)} {n₂ = maxPlaces}
     {m₂ = stripFieldLength maxStrip} (few-places p acc f h) (omega (arith, acc .short)) in
-    omega arith
+    omega (arith, profile-short p)
 
 module _ (p : Profile) (acc : Accepted p) (x : List ℕ) (size : length x ≡ p .n * p .a * p .s) where
   pub strip-length : (q : Place) → Within p q → length (stripOf p x q) ≡ p .s

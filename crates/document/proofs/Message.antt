@@ -1,10 +1,11 @@
 -- A message as it is written: its length, and what a reader finds in it.
 use mathlib.Core.Path.{_≡_, refl, sym, ap, ap₂, _∙_}
-use mathlib.Core.Bool.{Bool, true, false, _&&_}
+use mathlib.Core.Bool.{Bool, true, false, _&&_, cond}
 use mathlib.Core.List.{List, [], _∷_, _++_, append-nil, append-assoc}
 use Prim.Native.Nat.{ℕ, zero, suc, _+_, _*_, _≤_, _<_}
 use native.Mathlib.Nat.{add-zero, zero-mul, suc-mul, add-assoc, not-suc-le-zero}
 use native.Mathlib.Omega.{arith}
+use lib.Dec.{eqb}
 use lib.ListN.{length, getD, take, length-append}
 use lib.Seq.{take-length}
 use borrow.Author.Tests.{eqb-true}
@@ -23,8 +24,10 @@ use Rattle.document.specs.Places.{place, placeAt}
 use Rattle.document.specs.Message.{
   recordingBytes,
   recordingLength,
+  editionBytes,
   profileContent,
   profileContentLength,
+  maxProfileContent,
   profileFieldLength,
   stripContent,
   stripContentLength,
@@ -44,9 +47,21 @@ pub recording-length : (r : Recording) → length (recordingBytes r) ≡ recordi
 unfolding recordingBytes fourBytes twoBytes
 recording-length r = refl
 
-pub profile-length : (p : Profile) → length (profileContent p) ≡ profileContentLength p
-unfolding profileContent twoBytes
-profile-length p = refl
+-- in edition 1 six bytes, else seven
+pub profile-length : (p : Profile) → profileContentLength p ≡ cond (eqb (p .edition) 1) 6 7
+unfolding profileContent twoBytes editionBytes
+profile-length p = go (eqb (p .edition) 1)
+  where
+    go : (first : Bool) → length (0 ∷ 0 ∷ 0 ∷ 0 ∷ 0 ∷ 0 ∷ cond first [] (p .edition ∷ [])) ≡ cond first 6 7
+    go true = refl
+    go false = refl
+
+pub profile-short : (p : Profile) → profileContentLength p ≤ maxProfileContent
+profile-short p = rw profile-length (go (eqb (p .edition) 1))
+  where
+    go : (first : Bool) → cond first 6 7 ≤ maxProfileContent
+    go true = omega arith
+    go false = omega arith
 
 module _ (r : Recording) (strips : Place → List ℕ) where
   abbrev pub fieldAt : Place → List ℕ
@@ -138,7 +153,7 @@ module _ (p : Profile) (content : List ℕ) (r : Recording) (strips : Place → 
   fields = stripFields r strips qs
 
   first-length : length first ≡ profileFieldLength p
-  first-length = omega (arith, field-length 1 (profileContent p), profile-length p)
+  first-length = field-length 1 (profileContent p)
 
   pub message-length : length message ≡ messageLength p (length content) (length qs)
   unfolding messageOf
@@ -156,8 +171,8 @@ module _ (p : Profile) (content : List ℕ) (r : Recording) (strips : Place → 
       × (slice message openingLength (profileContentLength p) ≡ profileContent p)
   unfolding messageOf
   written-first = (
-    field-opening 1 (profileContent p) (second ++ fields) ∙ ap (opening 1) (profile-length p),
-    ap (slice message openingLength) (sym (profile-length p)) ∙ field-content 1 (profileContent p) (second ++ fields),
+    field-opening 1 (profileContent p) (second ++ fields),
+    field-content 1 (profileContent p) (second ++ fields),
   )
 
   pub written-second : (slice message (profileFieldLength p) openingLength ≡ opening 2 (length content))

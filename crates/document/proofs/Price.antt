@@ -70,7 +70,7 @@ module _ (p : Profile) (acc : Accepted p) (f : Node) (h : f .0 < p .n) where
       enough = omega (arith, sound .off-diagonal-length, mul-sub (G - 1) A 1, nodes-enough p acc)
 
   pub planned-price : length (planned p f) ≡ priceOf n k A
-  planned-price = rw planned-over (over-price (walkOf p f) (walk-complete p f))
+  planned-price = rw planned-over (over-price (walkOf p f) (walk-complete p f h))
 
   pub few-places : length (planned p f) ≤ maxPlaces
   few-places = omega (arith, planned-price, price-bound p acc)

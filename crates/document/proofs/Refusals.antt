@@ -16,6 +16,7 @@ unfolding numberOf
 number-range refusals.Shape = (lit≤ tt, lit≤ tt)
 number-range refusals.Constant = (lit≤ tt, lit≤ tt)
 number-range refusals.StripLength = (lit≤ tt, lit≤ tt)
+number-range refusals.Edition = (lit≤ tt, lit≤ tt)
 number-range refusals.OutOfRange = (lit≤ tt, lit≤ tt)
 number-range refusals.BufferLength = (lit≤ tt, lit≤ tt)
 number-range refusals.Form = (lit≤ tt, lit≤ tt)

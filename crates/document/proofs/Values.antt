@@ -102,8 +102,8 @@ module _ (p : Numbers) where
   unfolding onAccepted profileTests indexOf
   by-profile R refuse go f g =
       tried-small R refuse _ f (λ h. h)
-      (next zero-le (λ shape. next zero-le (λ constant. next zero-le (λ strip.
-      done (g (failed-accepted p (shape, (constant, (strip, tt)))))))))
+      (next zero-le (λ shape. next zero-le (λ constant. next zero-le (λ strip. next zero-le (λ edition.
+      done (g (failed-accepted p (shape, (constant, (strip, (edition, tt)))))))))))
 
   value-by : {X : Type 0} (x : X) (go : Profile → Answer × X) {most : ℕ}
       → (Accepted (profileOf p) → answerValue (go (profileOf p) .0) ≤ most)

@@ -1,15 +1,17 @@
 -- What follows for a walk from going over each candidate once: which nodes each of its steps has, none of them twice,
--- and how many. Document 01's walk is one such, and the plan over it is the planned places.
+-- and how many. Each edition's walk is one such, and the plan over it is the planned places.
 use mathlib.Core.Path.{_≡_, ap, ap₂, _∙_}
-use mathlib.Core.Bool.{Bool, true, _&&_}
-use Prim.Native.Nat.{ℕ, _-_, _*_, _/_, _%_, _≤_, _<_}
+use mathlib.Core.Bool.{Bool, true, false, _&&_, cond}
+use Prim.Native.Nat.{ℕ, _+_, _-_, _*_, _/_, _%_, _≤_, _<_, zero-le}
 use native.Mathlib.Nat.{one-mul, mul-one, mul-sub, mod-lt, div-lt-iff-lt-mul}
 use native.Mathlib.Omega.{arith}
+use lib.Dec.{eqb}
 use lib.ListN.{length, getD, length-map}
 use Rattle.lists.specs.Listed.{rising}
 use Rattle.lists.specs.Each.{Each, Distinct}
 use Rattle.lists.proofs.Rising.{count-one, count-others, count-digits}
 use Rattle.lists.proofs.Once.{once-each, once-distinct, once-length, once-has, rising-once}
+use Rattle.lists.proofs.Around.{around-once}
 use Rattle.document.specs.declared.Profile.{Profile}
 use Rattle.document.specs.declared.Node.{Node}
 use Rattle.document.specs.Profile.{Accepted}
@@ -21,6 +23,7 @@ use Rattle.document.specs.Plan.{
   planned,
   Walk,
   Complete,
+  walkStart,
   walkOf,
   stepTwo,
   planOver,
@@ -39,12 +42,21 @@ pub record Sound (n A : ℕ) (f : Node) (w : Walk) : Type 0 where
   pub off-diagonal-once : Distinct (w .off-diagonal)
   pub off-diagonal-length : length (w .off-diagonal) ≡ (n / A - 1) * (A - 1)
 
--- each step by rising node
-pub walk-complete : (p : Profile) (f : Node) → Complete (p .n) (p .a) f (walkOf p f)
-walk-complete p f = record {
+-- steps 2 and 3 begin at a node, or past the last one
+pub walk-start : (p : Profile) (f : Node) → f .0 < p .n → walkStart p f ≤ p .n
+unfolding walkStart
+walk-start p f h = go (eqb (p .edition) 1)
+  where
+    go : (first : Bool) → cond first 0 (f .0 + 1) ≤ p .n
+    go true = zero-le
+    go false = omega arith
+
+-- step 1 by rising node, the others around
+pub walk-complete : (p : Profile) (f : Node) → f .0 < p .n → Complete (p .n) (p .a) f (walkOf p f)
+walk-complete p f h = record {
   own = rising-once (p .n) (isOwn (p .a) f);
-  diagonal = rising-once (p .n) (isDiagonal (p .a) f);
-  off-diagonal = rising-once (p .n) (isOffDiagonal (p .a) f);
+  diagonal = around-once (p .n) (walkStart p f) (walk-start p f h) (isDiagonal (p .a) f);
+  off-diagonal = around-once (p .n) (walkStart p f) (walk-start p f h) (isOffDiagonal (p .a) f);
 }
 
 -- the planned places are those of the steps over this walk
@@ -106,6 +118,6 @@ module _ (p : Profile) (acc : Accepted p) where
           once-length n (isOffDiagonal A f) (w .off-diagonal) (complete .off-diagonal) ∙ off-diagonal-count;
     }
 
-    -- document 01's walk
+    -- the edition's walk
     pub walk-sound : Sound n A f (walkOf p f)
-    walk-sound = complete-sound (walkOf p f) (walk-complete p f)
+    walk-sound = complete-sound (walkOf p f) (walk-complete p f h)

@@ -47,7 +47,8 @@ lostContent f r = f .0 ∷ recordingBytes r
 abbrev pub lostContentLength : ℕ
 lostContentLength = 1 + recordingLength
 
--- K2: 'a bundle 19 + P(11+S)', P the number of places. Field 01 takes 3+6 bytes, field 02 3+7, a field 03 3+8+S.
+-- K2: 'a bundle 19 + P(11+S)', P the number of places: field 01 takes 3+6 bytes, field 02 3+7, a field 03 3+8+S. In
+-- edition 2 field 01 takes one byte more, and so does the bundle.
 abbrev pub bundleLength : Profile → Node → ℕ
 bundleLength p f = messageLength p lostContentLength (length (planned p f))
 
@@ -60,7 +61,8 @@ longestBundle =
 unfoldable pub bundleOf : Profile → Node → Recording → List ℕ → List ℕ
 bundleOf p f r x = messageOf p (lostContent f r) r (stripOf p x) (planned p f)
 
--- The refusals of writing past 1, 2 and 3: 4, then 5 for an array not of nAS bytes or a bundle not of its length.
+-- The refusals of writing past those of a profile: 4, then 5 for an array not of nAS bytes or a bundle not of its
+-- length.
 unfoldable pub writeTests : Profile → Node → List ℕ → List ℕ → List Test
 writeTests p f x b =
     record { refusal = OutOfRange; holds = not (ltb (f .0) (p .n)) }

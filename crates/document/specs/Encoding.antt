@@ -122,7 +122,7 @@ module _ (p : Profile) where
   unfoldable pub coupled : List ℕ → List ℕ
   coupled x = laidOut n (λ b. coupledAt (byteAt x b))
 
--- The refusals of encoding past 1, 2 and 3: 5 for data not of kAS bytes or an array not of nAS bytes.
+-- The refusals of encoding past those of a profile: 5 for data not of kAS bytes or an array not of nAS bytes.
 unfoldable pub encodeTests : Profile → List ℕ → List ℕ → List Test
 encodeTests p d x =
     record {

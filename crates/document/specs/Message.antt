@@ -9,9 +9,10 @@
 --
 -- recordingBytes r                  : a recording in bytes: its scenario and its run
 -- recordingLength                   : how many bytes that is
+-- editionBytes e                    : what field 01 says of the edition
 -- profileContent p                  : the content of field 01
+-- profileContentLength p            : how long it is
 -- maxProfileContent                 : no profile's is longer
--- profileContentLength p            : how long it is: the same for all profiles so far
 -- profileFieldLength p              : the length of field 01, tag and length counted in: field 02 starts there
 -- stripContent q r strip            : the content of field 03 for the place q
 -- stripContentLength S              : how long it is
@@ -34,7 +35,7 @@
 -- formed p m P b                    : the test of the total length, the tags and the field lengths
 -- headed p content b                : the test of the contents of fields 01 and 02
 -- messageTests p content r qs b     : the refusals 6 to 9 of a reader, in their order
-use mathlib.Core.Bool.{Bool, _&&_, not}
+use mathlib.Core.Bool.{Bool, _&&_, not, cond}
 use mathlib.Core.List.{List, [], _∷_, _++_}
 use Prim.Native.Nat.{ℕ, _+_, _*_}
 use lib.Dec.{eqb}
@@ -57,17 +58,22 @@ recordingLength = 6
 unfoldable pub recordingBytes : Recording → List ℕ
 recordingBytes r = fourBytes (r .scenario) ++ twoBytes (r .run)
 
--- '01, length 6: n, k, A, t, S in two bytes.'
-unfoldable pub profileContent : Profile → List ℕ
-profileContent p = p .n ∷ p .k ∷ p .a ∷ p .t ∷ twoBytes (p .s)
+-- K6: 'Field 01 gets a last byte, edition 2, and length 7; a field of length 6 is edition 1.'
+unfoldable pub editionBytes : ℕ → List ℕ
+editionBytes e = cond (eqb e 1) [] (e ∷ [])
 
-abbrev pub maxProfileContent : ℕ
-maxProfileContent = 6
+-- '01, length 6: n, k, A, t, S in two bytes', and the edition.
+unfoldable pub profileContent : Profile → List ℕ
+profileContent p = p .n ∷ p .k ∷ p .a ∷ p .t ∷ (twoBytes (p .s) ++ editionBytes (p .edition))
 
 abbrev pub profileContentLength : Profile → ℕ
-profileContentLength p = 6
+profileContentLength p = length (profileContent p)
 
--- Tag and length counted in: 9 bytes. 'It opens with the three bytes 01 00 06.'
+abbrev pub maxProfileContent : ℕ
+maxProfileContent = 7
+
+-- Tag and length counted in: 9 bytes in edition 1, 10 in edition 2. 'It opens with the three bytes 01 00 06', in
+-- edition 2 with 01 00 07.
 abbrev pub profileFieldLength : Profile → ℕ
 profileFieldLength p = openingLength + profileContentLength p
 
@@ -127,7 +133,8 @@ fresh r b at = same (recordingIn b at) (recordingBytes r)
 unfoldable pub stripFieldStart : Profile → ℕ → ℕ → ℕ
 stripFieldStart p m i = headLength p m + i * stripFieldLength (p .s)
 
--- 6: 'bundle's total length, tags or field lengths differ from those of the wanted profile and node'.
+-- 6: 'bundle's total length, tags or field lengths differ from those of the wanted profile and node'; K6: '6 and 7 read
+-- the edition too'.
 unfoldable pub formed : Profile → ℕ → ℕ → List ℕ → Bool
 formed p m P b =
     eqb (length b) (messageLength p m P)

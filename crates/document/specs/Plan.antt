@@ -1,10 +1,13 @@
--- 'The rebuild plan and its price': the places that are read to rebuild a lost node f. Here c is f's local column.
+-- 'The rebuild plan and its price': the places that are read to rebuild a lost node f, in edition 1, and in edition 2
+-- of K6. Here c is f's local column.
 --
 -- isOwn A f j         : node j is another node of f's own group
 -- isDiagonal A f j    : node j lies in another group, and its row c on the diagonal: its local column is c
 -- isOffDiagonal A f j : node j lies in another group, at another local column
 -- rowAt A f j         : the place of node j, row c
 -- pairsAt A f js      : for each of the nodes js its row c, then the partner of that place
+-- walkStart p f       : the node at which steps 2 and 3 begin to walk
+-- walked p f P        : the nodes for which P holds, in the order of this walk
 -- firstStep p f       : the places of step 1
 -- secondStep p f      : the places of step 2
 -- thirdStep p f       : the places of step 3
@@ -20,19 +23,19 @@
 -- For the theorems, which hold whatever the order within a step, and for what computes by them:
 -- Walk                : the nodes that each of the three steps goes over, in their order
 -- Complete n A f w    : each step of the walk w goes over each of its candidates once
--- walkOf p f          : document 01's walk: each step by rising node
+-- walkOf p f          : the edition's walk
 -- stepTwo k w         : the nodes that step 2 lists over the walk w
 -- stepThree k w       : the nodes that step 3 lists over it
 -- chosenOver k w      : the nodes of steps 2 and 3
 -- nodesOver k w       : the nodes of the three steps
--- planOver A k f w    : the places of the three steps; over document 01's walk they are the planned places, which is
+-- planOver A k f w    : the places of the three steps; over the edition's walk they are the planned places, which is
 --                       `Demand3Walk` in demands/specs/Plan.antt
-use mathlib.Core.Bool.{Bool, _&&_, not}
+use mathlib.Core.Bool.{Bool, _&&_, not, cond}
 use mathlib.Core.List.{List, [], _∷_, _++_, map}
 use Prim.Native.Nat.{ℕ, _+_, _-_, _*_, _/_}
 use lib.Dec.{eqb, ltb}
 use lib.ListN.{length, take, drop}
-use Rattle.lists.specs.Listed.{rising}
+use Rattle.lists.specs.Listed.{rising, around}
 use Rattle.lists.specs.Each.{ListsOnce}
 use Rattle.document.specs.declared.Numbers.{Numbers}
 use Rattle.document.specs.declared.Profile.{Profile}
@@ -77,21 +80,31 @@ module _ (A : ℕ) (f : Node) where
 module _ (p : Profile) (f : Node) where
   open Profile p using (n, k, a as A)
 
+  -- K6: 'Edition 2 walks the candidates of steps 2 and 3 from the node after the lost one'; 'Edition 1 stays':
+  -- 'rising', from node 0.
+  unfoldable pub walkStart : ℕ
+  walkStart = cond (eqb (p .edition) 1) 0 (f .0 + 1)
+
+  -- '.. rising and wrapping past n-1 to 0'
+  abbrev pub walked : (ℕ → Bool) → List ℕ
+  walked P = around n walkStart P
+
   -- 1. 'row c of every other node of f's own group, by rising node;'
   abbrev pub firstStep : List Place
   firstStep = map (rowAt A f) (rising n (isOwn A f))
 
   -- 2. 'row c of the node with local column c in each other group, rising, until k places are listed in this step or
-  -- the groups run out;'
+  -- the groups run out;' K6: in the walk's order.
   abbrev pub secondStep : List Place
-  secondStep = map (rowAt A f) (take k (rising n (isDiagonal A f)))
+  secondStep = map (rowAt A f) (take k (walked (isDiagonal A f)))
 
   -- 3. 'if step 2 gave fewer than k: each remaining node outside f's group whose local column is not c, rising, with
-  -- two places: its row c, then the partner of that place; until steps 2 and 3 have given k nodes.'
+  -- two places: its row c, then the partner of that place; until steps 2 and 3 have given k nodes.' K6: 'each step on
+  -- its own, so that step 2 is still finished before step 3 begins'.
   abbrev pub thirdStep : List Place
-  thirdStep = pairsAt A f (take (k - length secondStep) (rising n (isOffDiagonal A f)))
+  thirdStep = pairsAt A f (take (k - length secondStep) (walked (isOffDiagonal A f)))
 
-  -- 'The plan lists, in this order:'
+  -- 'The plan lists, in this order:' K6: 'Step 1 stays.'
   unfoldable pub planned : List Place
   planned = firstStep ++ (secondStep ++ thirdStep)
 
@@ -111,7 +124,7 @@ unfoldable pub planBytes : List Place → List ℕ
 planBytes [] = []
 planBytes (q ∷ qs) = q .node .0 ∷ q .row .0 ∷ planBytes qs
 
--- The refusals of planning past 1, 2 and 3: 4 for 'lost node not below n', then 5 for a buffer too short.
+-- The refusals of planning past those of a profile: 4 for 'lost node not below n', then 5 for a buffer too short.
 unfoldable pub planTests : Profile → Node → List ℕ → List Test
 planTests p f x =
     record { refusal = OutOfRange; holds = not (ltb (f .0) (p .n)) }
@@ -140,12 +153,12 @@ pub record Complete (n A : ℕ) (f : Node) (w : Walk) : Type 0 where
   pub diagonal : ListsOnce n (isDiagonal A f) (w .diagonal)
   pub off-diagonal : ListsOnce n (isOffDiagonal A f) (w .off-diagonal)
 
--- Step 1 'by rising node', steps 2 and 3 'rising'.
+-- Step 1 'by rising node', steps 2 and 3 as the edition walks.
 abbrev pub walkOf : Profile → Node → Walk
 walkOf p f = record {
   own = rising (p .n) (isOwn (p .a) f);
-  diagonal = rising (p .n) (isDiagonal (p .a) f);
-  off-diagonal = rising (p .n) (isOffDiagonal (p .a) f);
+  diagonal = walked p f (isDiagonal (p .a) f);
+  off-diagonal = walked p f (isOffDiagonal (p .a) f);
 }
 
 -- Step 2: 'until k places are listed in this step or the groups run out'.

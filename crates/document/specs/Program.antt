@@ -28,7 +28,7 @@ byteIn input i = getD input i 0
 
 -- '(n, k, A, t, S in two, wanted node, wanted scenario in four; ..)', K2: 'The program reads thirteen bytes, the run
 -- last.' High byte first as in a bundle: for S and the scenario a reading of ours, which docs/DECISIONS.md has; for the
--- run K2 says it.
+-- run K2 says it. K6: 'the small program stays with edition 1'.
 abbrev pub programHead : ℕ
 programHead = 13
 
@@ -39,6 +39,7 @@ wantedNumbers input = record {
   a = byteIn input 2;
   t = byteIn input 3;
   s = byteIn input 4 * 256 + byteIn input 5;
+  edition = 1;
 }
 
 unfoldable pub wantedNode : List ℕ → ℕ

@@ -56,7 +56,8 @@ rebuiltOver p f w x =
 unfoldable pub rebuiltOf : Profile → Node → List ℕ → ℕ → ℕ → List ℕ
 rebuiltOf p f src first stride = rebuiltOver p f (walkOf p f) (givenAt (planned p f) src first stride)
 
--- The refusals of a rebuild past 1, 2 and 3: 4, then 5 for a column not of AS bytes, then those of the bundle, 6 to 9.
+-- The refusals of a rebuild past those of a profile: 4, then 5 for a column not of AS bytes, then those of the bundle,
+-- 6 to 9.
 unfoldable pub rebuildTests : Profile → Node → Recording → List ℕ → List ℕ → List Test
 rebuildTests p f r b y =
     record { refusal = OutOfRange; holds = not (ltb (f .0) (p .n)) }

@@ -1,6 +1,6 @@
--- 'Refusals by number, in the order they are tried'
+-- 'Refusals by number, in the order they are tried', and those that document 02 adds.
 --
--- numberOf r           : document 01's number of the refusal r
+-- numberOf r           : the documents' number of the refusal r
 -- indexOf r            : the index that comes with it: the strip's for 8 and 9, 0 for the others
 -- answerNumber answer  : 0 on success, otherwise the refusal's number
 -- answerValue answer   : the value on success, otherwise the index
@@ -20,6 +20,7 @@ use Rattle.document.specs.declared.Refusal.the-variants.{
   Shape,
   Constant,
   StripLength,
+  Edition,
   OutOfRange,
   BufferLength,
   Form,
@@ -31,11 +32,12 @@ use Rattle.document.specs.declared.Refusal.the-variants.{
 use Rattle.document.specs.declared.Answer.{Answer}
 use Rattle.document.specs.declared.Answer.the-variants.{Done, Refused}
 
--- The first column of the table.
+-- The first column of the table; K6: 'an edition other than 1 or 2 is 13, tried after 3'.
 unfoldable pub numberOf : Refusal → ℕ
 numberOf Shape = 1
 numberOf Constant = 2
 numberOf StripLength = 3
+numberOf Edition = 13
 numberOf OutOfRange = 4
 numberOf BufferLength = 5
 numberOf Form = 6
@@ -49,6 +51,7 @@ unfoldable pub indexOf : Refusal → ℕ
 indexOf Shape = 0
 indexOf Constant = 0
 indexOf StripLength = 0
+indexOf Edition = 0
 indexOf OutOfRange = 0
 indexOf BufferLength = 0
 indexOf Form = 0

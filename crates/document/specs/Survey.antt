@@ -62,8 +62,8 @@ module _ (p : Profile) where
       cond (ltb found (start + looked)) (Failing found (found - start + 1), setAt 0 n k found)
       (cond (eqb (start + looked) (sets n k)) (Done looked, x) (Open looked, x))
 
--- The refusals of a survey past 1, 2 and 3: 4 for a 'survey start above the number of sets', 5 for a set not of k
--- bytes.
+-- The refusals of a survey past those of a profile: 4 for a 'survey start above the number of sets', 5 for a set not of
+-- k bytes.
 unfoldable pub surveyTests : Profile → ℕ → List ℕ → List Test
 surveyTests p start x =
     record { refusal = OutOfRange; holds = ltb (sets (p .n) (p .k)) start }

@@ -4,7 +4,7 @@ ghost use mathlib.Core.Path.{_≡_};
 ghost use Prim.Native.Nat.{_/_, _%_, _<_};
 ghost use Rattle.document.specs.Refusals.{numberOf, indexOf};
 ghost use Rattle.document.specs.ByteField.{number};
-ghost use Rattle.document.specs.Profile.{Accepted, shapeAccepted, checkedOf};
+ghost use Rattle.document.specs.Profile.{Accepted, shapeAccepted, editionAccepted, checkedOf};
 ghost use Rattle.document.specs.Places.{place, partnerOf, Within};
 ghost use Rattle.document.specs.Message.{recordingBytes};
 ghost use Rattle.document.specs.Encoding;
@@ -17,16 +17,19 @@ pub struct Numbers {
     pub a: usize,
     pub t: usize,
     pub s: usize,
+    pub edition: usize,
 }
 
-// The same as a profile: nodes, data nodes, rows, coupling constant, strip length in bytes. `Profile::new` hands out
-// accepted ones only; a function that rests on that asks that it is `Accepted`.
+// The same as a profile: nodes, data nodes, rows, coupling constant, strip length in bytes, and the edition, which says
+// how a plan walks and how field 01 is written. `Profile::new` hands out accepted ones only; a function that rests on
+// that asks that it is `Accepted`.
 pub struct Profile {
     pub n: usize,
     pub k: usize,
     pub a: usize,
     pub t: u8,
     pub s: usize,
+    pub edition: u8,
 }
 
 // A node's number. A row's number is another type: staff read the two off different labels.
@@ -67,7 +70,7 @@ impl Recording {
     }
 }
 
-// Why a call is refused, in the order of document 01's table; `numberOf` in specs/ gives the number.
+// Why a call is refused, in the order in which it is tried; `numberOf` in specs/ gives the number.
 pub enum Refusal {
     // 1: n, k or A not accepted
     Shape,
@@ -75,6 +78,8 @@ pub enum Refusal {
     Constant,
     // 3: S is 0 or above 512
     StripLength,
+    // 13: an edition other than 1 or 2
+    Edition,
     // 4: lost node, node list or survey start
     OutOfRange,
     // 5: a lent buffer other than the bundle to read has the wrong length
@@ -92,7 +97,7 @@ pub enum Refusal {
 }
 
 impl Refusal {
-    // Document 01's number.
+    // The documents' number.
     pub fn number(self) -> u8
         ensures { λ r. ⌜ r ≡ numberOf self ⌝ }
     {
@@ -100,6 +105,7 @@ impl Refusal {
             Refusal::Shape => 1,
             Refusal::Constant => 2,
             Refusal::StripLength => 3,
+            Refusal::Edition => 13,
             Refusal::OutOfRange => 4,
             Refusal::BufferLength => 5,
             Refusal::Form => 6,
@@ -170,6 +176,16 @@ fn accepts_shape(n: usize, k: usize, a: usize) -> bool
     n <= Profile::MAX_NODES
 }
 
+// Whether there is such an edition.
+fn accepts_edition(edition: usize) -> bool
+    ensures { λ r. ⌜ r ≡ editionAccepted edition ⌝ }
+{
+    if edition < Profile::FIRST_EDITION {
+        return false;
+    }
+    edition <= Profile::LAST_EDITION
+}
+
 impl Profile {
     pub const MAX_NODES: usize = 24;
 
@@ -182,6 +198,10 @@ impl Profile {
     pub const MAX_CONSTANT: usize = 255;
 
     pub const MAX_STRIP: usize = 512;
+
+    pub const FIRST_EDITION: usize = 1;
+
+    pub const LAST_EDITION: usize = 2;
 
     // The profile with these numbers, or the first refusal that applies.
     pub fn new(p: Numbers) -> Checked
@@ -204,12 +224,16 @@ impl Profile {
         if Profile::MAX_STRIP < s {
             return Checked::Rejected(Refusal::StripLength);
         }
+        if !accepts_edition(p.edition) {
+            return Checked::Rejected(Refusal::Edition);
+        }
         Checked::Passed(Profile {
             n: p.n,
             k: p.k,
             a: p.a,
             t: t as u8,
             s: s,
+            edition: p.edition as u8,
         })
     }
 

@@ -11,7 +11,7 @@ ghost use Rattle.fields.specs.Fields.{fieldOf};
 ghost use Rattle.document.specs.Profile.{maxStrip, Accepted};
 ghost use Rattle.document.specs.Places.{Within, placeAt};
 ghost use Rattle.document.specs.Encoding.{stripOf};
-ghost use Rattle.document.specs.Message.{recordingBytes, recordingLength, profileContent, profileFieldLength};
+ghost use Rattle.document.specs.Message.{recordingBytes, recordingLength, profileContent};
 ghost use Rattle.document.specs.Message.{stripContent, stripFieldLength, stripOffset, headLength, messageLength};
 ghost use Rattle.document.specs.Message.{stripFields, messageOf, stripFieldStart};
 ghost use Rattle.message.specs.PlaceBytes.{placesFrom, Bounded};
@@ -26,24 +26,15 @@ use document::Row;
 use fields::OPENING;
 pub use reader::check;
 
-// How many bytes the content of field 01 takes, and that of a field 03 before its strip.
-pub const PROFILE: usize = 6;
-
+// How many bytes the content of a field 03 takes before its strip.
 pub const PLACED: usize = 2 + Recording::BYTES;
-
-// The length of field 01: field 02 starts there.
-fn profile_length(p: Profile) -> usize
-    ensures { λ r. ⌜ r ≡ profileFieldLength p ⌝ }
-{
-    OPENING + PROFILE
-}
 
 // The length of fields 01 and 02, where the content of field 02 has m bytes.
 fn head_length(p: Profile, m: usize) -> usize
     requires { ⌜ m < 65536 ⌝ }
     ensures { λ r. ⌜ r ≡ headLength p m ⌝ }
 {
-    profile_length(p) + (OPENING + m)
+    profile_field::field_length(p) + (OPENING + m)
 }
 
 // How far one field 03 starts from the next, and one strip from the next.
@@ -90,32 +81,13 @@ fn put_recording(out: &mut [u8], at: usize, r: Recording) -> usize
     lists::put_bytes(out, at, &bytes)
 }
 
-// The content of field 01: the profile.
-fn profile_content(p: Profile) -> [u8; PROFILE]
-    requires { ⌜ Accepted p ⌝ }
-    ensures { λ r. ⌜ r ≡ profileContent p ⌝ }
-{
-    let s = fields::two_bytes(p.s);
-    [p.n as u8, p.k as u8, p.a as u8, p.t, s[0], s[1]]
-}
-
-// Writes field 01.
-fn put_profile(out: &mut [u8], p: Profile) -> usize
-    requires { ⌜ Accepted p × (profileFieldLength p ≤ length (now out)) ⌝ }
-    ensures { λ next. ⌜ Wrote (now (out .entry)) 0 (fieldOf 1 (profileContent p)) next (now (out .exit)) ⌝ }
-{
-    let after_opening = lists::put_bytes(out, 0, b"\x01\x00\x06");
-    let content = profile_content(p);
-    lists::put_bytes(out, after_opening, &content)
-}
-
 // Writes fields 01 and 02.
 fn put_head(out: &mut [u8], p: Profile, content: &[u8]) -> usize
     requires { ⌜ Accepted p × (headLength p (length (now content)) ≤ length (now out)) ⌝ }
     ensures { λ next. ⌜ Wrote (now (out .entry)) 0
         (fieldOf 1 (profileContent p) ++ fieldOf 2 (now (content .entry))) next (now (out .exit)) ⌝ }
 {
-    let after_profile = put_profile(out, p);
+    let after_profile = profile_field::put(out, 0, p);
     let after_opening = fields::put_opening(out, after_profile, 2, content.len());
     lists::put_bytes(out, after_opening, content)
 }

@@ -14,8 +14,6 @@ ghost use Rattle.message.specs.PlaceBytes.{placesFrom, Bounded};
 ghost use Rattle.message.specs.Reader.{FieldsFit, openedIn, placedIn, freshIn, FirstNot};
 use crate::PLACED;
 use crate::place_at;
-use crate::profile_content;
-use crate::profile_length;
 use crate::strip_field;
 use document::Answer;
 use document::Place;
@@ -29,9 +27,7 @@ fn opened(p: Profile, b: &[u8], at: usize) -> bool
     requires { ⌜ Accepted p × (at + openingLength ≤ length (now b)) ⌝ }
     ensures { λ r. ⌜ r ≡ Message.opened (p .s) (now (b .entry)) at ⌝ }
 {
-    let length = fields::two_bytes(PLACED + p.s);
-    let want = [3u8, length[0], length[1]];
-    lists::same_at(b, at, &want)
+    fields::opens(b, at, 3, PLACED + p.s)
 }
 
 // Whether it has the place q.
@@ -78,12 +74,10 @@ fn formed(p: Profile, m: usize, count: usize, b: &[u8]) -> bool
     if b.len() != strip_field(p, m, count) {
         return false;
     }
-    if !lists::same_at(b, 0, b"\x01\x00\x06") {
+    if !profile_field::opened(p, b, 0) {
         return false;
     }
-    let length = fields::two_bytes(m);
-    let second = [2u8, length[0], length[1]];
-    if !lists::same_at(b, profile_length(p), &second) {
+    if !fields::opens(b, profile_field::field_length(p), 2, m) {
         return false;
     }
     all_opened(p, m, b, count)
@@ -94,11 +88,10 @@ fn headed(p: Profile, content: &[u8], b: &[u8]) -> bool
     requires { ⌜ Accepted p × (headLength p (length (now content)) ≤ length (now b)) ⌝ }
     ensures { λ t. ⌜ t ≡ Message.headed p (now (content .entry)) (now (b .entry)) ⌝ }
 {
-    let profile = profile_content(p);
-    if !lists::same_at(b, OPENING, &profile) {
+    if !profile_field::same_content(p, b, 0) {
         return false;
     }
-    lists::same_at(b, profile_length(p) + OPENING, content)
+    lists::same_at(b, profile_field::field_length(p) + OPENING, content)
 }
 
 // The first strip that has another place than the list, or the number of strips.

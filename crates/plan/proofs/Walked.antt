@@ -8,8 +8,8 @@ use native.Mathlib.Omega.{arith}
 use lib.Dec.{eqb}
 use lib.ListN.{length, take, length-append, length-take}
 use lib.Seq.{length-take-le, take-all}
-use Rattle.lists.specs.Listed.{rising}
-use Rattle.lists.proofs.Rising.{rising-front}
+use Rattle.lists.specs.Listed.{rising, along, around}
+use Rattle.lists.proofs.Around.{along-front, around-zero}
 use Rattle.lists.specs.Put.{Wrote}
 use Rattle.lists.proofs.Put.{wrote-then, wrote-same}
 use Rattle.lists.specs.Each.{Each}
@@ -23,6 +23,8 @@ use Rattle.document.specs.Plan.{
   isOffDiagonal,
   rowAt,
   pairsAt,
+  walkStart,
+  walked,
   walkOf,
   stepTwo,
   stepThree,
@@ -58,16 +60,17 @@ pub at-most-one : (j : ℕ) (b : Bool) → length (cond b (j ∷ []) []) ≤ 1
 at-most-one j true = omega arith
 at-most-one j false = omega arith
 
-module _ (n : ℕ) (P : ℕ → Bool) {d e : List ℕ} {j at next end : ℕ} where
-  pub nodes-run-out : j ≡ n → next ≤ end → Wrote d at (rising j P) next e → rising j P ≡ take (end - at) (rising n P)
+module _ (n : ℕ) (g : ℕ → ℕ) (P : ℕ → Bool) {d e : List ℕ} {i at next end : ℕ} where
+  pub nodes-run-out : i ≡ n → next ≤ end → Wrote d at (along i g P) next e
+      → along i g P ≡ take (end - at) (along n g P)
   nodes-run-out all fits w =
-      let some : length (rising j P) ≤ end - at = omega (arith, w .ends) in
-      sym (take-all (end - at) (rising j P) some) ∙ ap (λ (m : ℕ). take (end - at) (rising m P)) all
+      let some : length (along i g P) ≤ end - at = omega (arith, w .ends) in
+      sym (take-all (end - at) (along i g P) some) ∙ ap (λ (m : ℕ). take (end - at) (along m g P)) all
 
-  pub list-full : j ≤ n → next ≡ end → Wrote d at (rising j P) next e → rising j P ≡ take (end - at) (rising n P)
+  pub list-full : i ≤ n → next ≡ end → Wrote d at (along i g P) next e → along i g P ≡ take (end - at) (along n g P)
   list-full h full w =
-      let size : length (rising j P) ≡ end - at = omega (arith, w .ends) in
-      sym (rising-front j n P h) ∙ ap (λ (m : ℕ). take m (rising n P)) size
+      let size : length (along i g P) ≡ end - at = omega (arith, w .ends) in
+      sym (along-front g P i n h) ∙ ap (λ (m : ℕ). take m (along n g P)) size
 
 pub step-ends : {d e : List ℕ} {at r : ℕ} (end : ℕ) (xs : List ℕ) → at ≤ end → Wrote d at (take (end - at) xs) r e
     → r ≤ end
@@ -80,10 +83,10 @@ module _ (p : Profile) (acc : Accepted p) (f : Node) (h : f .0 < p .n) where
   own = rising n (isOwn A f)
 
   abbrev diagonal : List ℕ
-  diagonal = rising n (isDiagonal A f)
+  diagonal = walked p f (isDiagonal A f)
 
   abbrev off : List ℕ
-  off = rising n (isOffDiagonal A f)
+  off = walked p f (isOffDiagonal A f)
 
   -- the nodes of steps 2 and 3
   abbrev second : List ℕ
@@ -112,17 +115,20 @@ module _ (p : Profile) (acc : Accepted p) (f : Node) (h : f .0 < p .n) where
       (sym (ap length (take-both k diagonal off)) ∙ length-take-le k (diagonal ++ off) enough)
 
   -- where the three steps write their nodes one after the other, steps 2 and 3 until there are k
-  pub nodes-written : {d d₁ d₂ d₃ : List ℕ} {m₁ m₂ m₃ : ℕ}
-      → Wrote d 0 (take (A - 1 - 0) own) m₁ d₁ → Wrote d₁ m₁ (take (m₁ + k - m₁) diagonal) m₂ d₂
-      → Wrote d₂ m₂ (take (m₁ + k - m₂) off) m₃ d₃ → Wrote d 0 planNodes m₃ d₃
-  nodes-written {d₁ = d₁} {d₂ = d₂} {m₁ = m₁} {m₂ = m₂} u v w =
-      let all : take (A - 1 - 0) own ≡ own = take-all (A - 1 - 0) own (omega (arith, sound .own-length)) in
+  pub nodes-written : {d d₁ d₂ d₃ : List ℕ} {m₁ m₂ m₃ b : ℕ} → b ≡ walkStart p f
+      → Wrote d 0 (take (A - 1 - 0) (around n 0 (isOwn A f))) m₁ d₁
+      → Wrote d₁ m₁ (take (m₁ + k - m₁) (around n b (isDiagonal A f))) m₂ d₂
+      → Wrote d₂ m₂ (take (m₁ + k - m₂) (around n b (isOffDiagonal A f))) m₃ d₃ → Wrote d 0 planNodes m₃ d₃
+  nodes-written {d₁ = d₁} {d₂ = d₂} {m₁ = m₁} {m₂ = m₂} begins u v w =
+      let all : take (A - 1 - 0) (around n 0 (isOwn A f)) ≡ own =
+      ap (take (A - 1 - 0)) (around-zero n (isOwn A f)) ∙ take-all (A - 1 - 0) own (omega (arith, sound .own-length)) in
       let most : m₁ + k - m₁ ≡ k = omega arith in
-      let two : Wrote d₁ m₁ second m₂ d₂ = wrote-same (ap (λ (m : ℕ). take m diagonal) most) v in
+      let two : Wrote d₁ m₁ second m₂ d₂ =
+      wrote-same (ap₂ (λ (m b : ℕ). take m (around n b (isDiagonal A f))) most begins) v in
       let left : m₁ + k - m₂ ≡ k - length second = omega (arith, two .ends) in
       wrote-same (append-assoc own second third)
       (wrote-then zero-le (wrote-then zero-le (wrote-same all u) two)
-      (wrote-same (ap (λ (m : ℕ). take m off) left) w))
+      (wrote-same (ap₂ (λ (m b : ℕ). take m (around n b (isOffDiagonal A f))) left begins) w))
 
   pub nodes-below : Each (λ j. j < n) planNodes
   nodes-below =

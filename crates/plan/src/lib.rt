@@ -1,12 +1,12 @@
 // The plan: the places that are read to rebuild a lost node.
 ghost use mathlib.Core.Path.{_≡_};
 ghost use mathlib.Core.List.{_∷_, []};
-ghost use Prim.Native.Nat.{ℕ, _+_, _-_, _<_, _≤_};
+ghost use Prim.Native.Nat.{ℕ, _+_, _-_, _%_, _<_, _≤_};
 ghost use lib.ListN.{length, getD, take};
-ghost use Rattle.lists.specs.Listed.{rising};
+ghost use Rattle.lists.specs.Listed.{around};
 ghost use Rattle.lists.specs.Put.{Wrote};
 ghost use Rattle.document.specs.Profile.{Accepted, maxNodes};
-ghost use Rattle.document.specs.Plan.{walkOf, nodesOver, planned, priceOf, planBytes, planWith, planOf};
+ghost use Rattle.document.specs.Plan.{walkStart, walkOf, nodesOver, planned, priceOf, planBytes, planWith, planOf};
 ghost use Rattle.plan.specs.Steps.{inStep, placesAt, placesOf};
 use document::Answer;
 use document::Checked;
@@ -42,19 +42,52 @@ pub fn in_step(step: Step, p: Profile, f: Node, j: usize) -> bool
     }
 }
 
-// Writes the numbers of the nodes that the step goes over, until the list ends at `end` or the nodes run out.
-fn list_step(out: &mut [u8], at: usize, end: usize, p: Profile, f: Node, step: Step) -> usize
-    requires { ⌜ Accepted p × (at ≤ end) × (end ≤ length (now out)) ⌝ }
+// Where steps 2 and 3 begin: at node 0 in edition 1, else at the node after the lost one.
+fn walk_start(p: Profile, f: Node) -> usize
+    requires { ⌜ f .0 < p .n ⌝ }
+    ensures { λ r. ⌜ r ≡ walkStart p f ⌝ }
+{
+    if p.edition == 1 {
+        return 0;
+    }
+    f.0 + 1
+}
+
+// Node i of a walk from `start`, which wraps past n-1 to 0.
+fn node_at(p: Profile, start: usize, i: usize) -> usize
+    requires { ⌜ Accepted p × (start ≤ p .n) × (i < p .n) ⌝ }
+    ensures { λ r. ⌜ r ≡ (start + i) % p .n ⌝ }
+{
+    let j = start + i;
+    if j < p.n {
+        return j;
+    }
+    j - p.n
+}
+
+// Writes the numbers of the nodes that the step goes over, walking from `start`, until the list ends at `end` or the
+// nodes run out.
+fn list_step(
+    out: &mut [u8],
+    at: usize,
+    end: usize,
+    p: Profile,
+    f: Node,
+    step: Step,
+    start: usize,
+) -> usize
+    requires { ⌜ Accepted p × (start ≤ p .n) × (at ≤ end) × (end ≤ length (now out)) ⌝ }
     ensures { λ r. ⌜ Wrote (now (out .entry)) at
-        (take (end - at) (rising (p .n) (inStep step (p .a) f))) r (now (out .exit)) ⌝ }
+        (take (end - at) (around (p .n) start (inStep step (p .a) f))) r (now (out .exit)) ⌝ }
 {
     let n = p.n;
     let mut next = at;
-    let mut j: usize = 0;
-    while j < n && next < end {
+    let mut i: usize = 0;
+    while i < n && next < end {
+        let j = node_at(p, start, i);
         let wanted = in_step(step, p, f, j);
         next = lists::put_if(out, next, j, wanted);
-        j += 1;
+        i += 1;
     }
     next
 }
@@ -106,10 +139,11 @@ pub fn list_nodes(out: &mut [u8], p: Profile, f: Node) -> usize
     requires { ⌜ Accepted p × (f .0 < p .n) × (maxNodes ≤ length (now out)) ⌝ }
     ensures { λ r. ⌜ Wrote (now (out .entry)) 0 (nodesOver (p .k) (walkOf p f)) r (now (out .exit)) ⌝ }
 {
-    let own = list_step(out, 0, p.a - 1, p, f, Step::Own);
+    let own = list_step(out, 0, p.a - 1, p, f, Step::Own, 0);
     let end = own + p.k;
-    let diagonal = list_step(out, own, end, p, f, Step::Diagonal);
-    list_step(out, diagonal, end, p, f, Step::OffDiagonal)
+    let start = walk_start(p, f);
+    let diagonal = list_step(out, own, end, p, f, Step::Diagonal, start);
+    list_step(out, diagonal, end, p, f, Step::OffDiagonal, start)
 }
 
 // Writes the planned places, two bytes each, and returns the number of bytes.

@@ -43,7 +43,7 @@ fn byte_in(input: &[u8], i: usize) -> u8
     0
 }
 
-// The numbers of the wanted profile, S high byte first.
+// The numbers of the wanted profile, S high byte first; the program stays with edition 1.
 fn numbers(input: &[u8]) -> Numbers
     ensures { λ r. ⌜ (r ≡ wantedNumbers (now (input .entry))) × (r .a ≤ 255) × (r .s ≤ 65535) ⌝ }
 {
@@ -59,6 +59,7 @@ fn numbers(input: &[u8]) -> Numbers
         a,
         t,
         s: high * 256 + low,
+        edition: 1,
     }
 }
 

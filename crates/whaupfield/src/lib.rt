@@ -35,13 +35,25 @@ pub extern "C" fn whaupfield_encode(
     a: usize,
     t: usize,
     s: usize,
+    edition: usize,
     input: &[u8],
     array: &mut [u8],
 ) -> u64
     ensures { λ r. ⌜ (r, now (array .exit)) ≡ packedWith (encodeOf
-        (record { n = n; k = k; a = a; t = t; s = s }) (now (input .entry)) (now (array .entry))) ⌝ }
+        (record { n = n; k = k; a = a; t = t; s = s; edition = edition }) (now (input .entry)) (now (array .entry))) ⌝ }
 {
-    pack(encode::encode(Numbers { n, k, a, t, s }, input, array))
+    pack(encode::encode(
+        Numbers {
+            n,
+            k,
+            a,
+            t,
+            s,
+            edition,
+        },
+        input,
+        array,
+    ))
 }
 
 #[no_mangle]
@@ -51,13 +63,25 @@ pub extern "C" fn whaupfield_plan(
     a: usize,
     t: usize,
     s: usize,
+    edition: usize,
     lost: usize,
     places: &mut [u8],
 ) -> u64
     ensures { λ r. ⌜ (r, now (places .exit)) ≡ packedWith (planOf
-        (record { n = n; k = k; a = a; t = t; s = s }) lost (now (places .entry))) ⌝ }
+        (record { n = n; k = k; a = a; t = t; s = s; edition = edition }) lost (now (places .entry))) ⌝ }
 {
-    pack(plan::plan(Numbers { n, k, a, t, s }, lost, places))
+    pack(plan::plan(
+        Numbers {
+            n,
+            k,
+            a,
+            t,
+            s,
+            edition,
+        },
+        lost,
+        places,
+    ))
 }
 
 #[no_mangle]
@@ -67,6 +91,7 @@ pub extern "C" fn whaupfield_write_bundle(
     a: usize,
     t: usize,
     s: usize,
+    edition: usize,
     lost: usize,
     scenario: u32,
     run: u16,
@@ -74,10 +99,17 @@ pub extern "C" fn whaupfield_write_bundle(
     bundle: &mut [u8],
 ) -> u64
     ensures { λ r. ⌜ (r, now (bundle .exit)) ≡ packedWith (writeOf
-        (record { n = n; k = k; a = a; t = t; s = s }) lost (record { scenario = scenario; run = run })
-        (now (array .entry)) (now (bundle .entry))) ⌝ }
+        (record { n = n; k = k; a = a; t = t; s = s; edition = edition }) lost
+        (record { scenario = scenario; run = run }) (now (array .entry)) (now (bundle .entry))) ⌝ }
 {
-    let p = Numbers { n, k, a, t, s };
+    let p = Numbers {
+        n,
+        k,
+        a,
+        t,
+        s,
+        edition,
+    };
     pack(bundle::write_bundle(p, lost, Recording { scenario, run }, array, bundle))
 }
 
@@ -88,6 +120,7 @@ pub extern "C" fn whaupfield_rebuild(
     a: usize,
     t: usize,
     s: usize,
+    edition: usize,
     lost: usize,
     scenario: u32,
     run: u16,
@@ -95,10 +128,17 @@ pub extern "C" fn whaupfield_rebuild(
     column: &mut [u8],
 ) -> u64
     ensures { λ r. ⌜ (r, now (column .exit)) ≡ packedWith (rebuildOf
-        (record { n = n; k = k; a = a; t = t; s = s }) lost (record { scenario = scenario; run = run })
-        (now (bundle .entry)) (now (column .entry))) ⌝ }
+        (record { n = n; k = k; a = a; t = t; s = s; edition = edition }) lost
+        (record { scenario = scenario; run = run }) (now (bundle .entry)) (now (column .entry))) ⌝ }
 {
-    let p = Numbers { n, k, a, t, s };
+    let p = Numbers {
+        n,
+        k,
+        a,
+        t,
+        s,
+        edition,
+    };
     pack(rebuild::rebuild(p, lost, Recording { scenario, run }, bundle, column))
 }
 
@@ -109,15 +149,28 @@ pub extern "C" fn whaupfield_read_back(
     a: usize,
     t: usize,
     s: usize,
+    edition: usize,
     nodes: &[u8],
     columns: &[u8],
     output: &mut [u8],
 ) -> u64
     ensures { λ r. ⌜ (r, now (output .exit)) ≡ packedWith (readOf
-        (record { n = n; k = k; a = a; t = t; s = s }) (now (nodes .entry)) (now (columns .entry))
+        (record { n = n; k = k; a = a; t = t; s = s; edition = edition }) (now (nodes .entry)) (now (columns .entry))
         (now (output .entry))) ⌝ }
 {
-    pack(reading::read_back(Numbers { n, k, a, t, s }, nodes, columns, output))
+    pack(reading::read_back(
+        Numbers {
+            n,
+            k,
+            a,
+            t,
+            s,
+            edition,
+        },
+        nodes,
+        columns,
+        output,
+    ))
 }
 
 // The value of a survey's answer, above the low byte: the outcome in two bits, the position and the number of sets
@@ -150,14 +203,27 @@ pub extern "C" fn whaupfield_survey(
     a: usize,
     t: usize,
     s: usize,
+    edition: usize,
     start: usize,
     most: usize,
     set: &mut [u8],
 ) -> u64
     ensures { λ r. ⌜ (r, now (set .exit)) ≡ packedSurveyWith (surveyOf
-        (record { n = n; k = k; a = a; t = t; s = s }) start most (now (set .entry))) ⌝ }
+        (record { n = n; k = k; a = a; t = t; s = s; edition = edition }) start most (now (set .entry))) ⌝ }
 {
-    pack_survey(survey::survey(Numbers { n, k, a, t, s }, start, most, set))
+    pack_survey(survey::survey(
+        Numbers {
+            n,
+            k,
+            a,
+            t,
+            s,
+            edition,
+        },
+        start,
+        most,
+        set,
+    ))
 }
 
 #[no_mangle]

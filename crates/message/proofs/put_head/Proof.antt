@@ -9,29 +9,21 @@ use Rattle.lists.proofs.Put.{wrote-then, wrote-same}
 use Rattle.fields.specs.Fields.{twoBytes, opening, openingLength, fieldOf}
 use Rattle.fields.proofs.Fields.{field-length}
 use Rattle.document.specs.Message.{profileContent, profileFieldLength}
-use Rattle.document.proofs.Message.{profile-length}
 use Rattle.message.proofs.put_head.Statement.{statement}
 use Rattle.message.proofs.put_head.Tie as tie
 
 -- where each part ends, and that the buffer keeps its length
-module _ (c : tie.After-put-profile) where
+module _ (c : tie.After-put) where
   abbrev start : tie.Start
   start = c .before .before .before .before
 
-  after-profile : (c .put-profile .result ≡ profileFieldLength (start .args .p))
-      × (length (c .put-profile .last .0) ≡ length (start .args .out .now))
-  after-profile = (
-    omega (
-      arith,
-      c .put-profile .ensures .ends,
-      field-length 1 (profileContent (start .args .p)),
-      profile-length (start .args .p),
-    ),
-    c .put-profile .kept .0,
-  )
+  after-profile : (c .put .result ≡ profileFieldLength (start .args .p))
+      × (length (c .put .last .0) ≡ length (start .args .out .now))
+  after-profile =
+      (omega (arith, c .put .ensures .ends, field-length 1 (profileContent (start .args .p))), c .put .kept .0)
 
 module _ (c : tie.After-put-opening) where
-  abbrev profile : tie.After-put-profile
+  abbrev profile : tie.After-put
   profile = c .before .before .before .before
 
   after-opening : (c .put-opening .result ≡ profileFieldLength (start profile .args .p) + openingLength)
@@ -58,7 +50,7 @@ returns c =
     let o = w .before .before .before .before in
     let s = start (profile o) in
     wrote-same (append-assoc (fieldOf 1 (profileContent (s .args .p))) (opening 2 (length (s .args .content .now))) _)
-    (wrote-then zero-le (wrote-then zero-le (profile o .put-profile .ensures) (o .put-opening .ensures))
+    (wrote-then zero-le (wrote-then zero-le (profile o .put .ensures) (o .put-opening .ensures))
     (w .put-bytes .ensures))
 
 pub put-head-spec : {M : Type 1} → statement M

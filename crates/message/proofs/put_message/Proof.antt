@@ -9,7 +9,6 @@ use Rattle.lists.proofs.Put.{wrote-then, wrote-same}
 use Rattle.fields.specs.Fields.{fieldOf}
 use Rattle.fields.proofs.Fields.{field-length}
 use Rattle.document.specs.Message.{profileContent, headLength, messageOf}
-use Rattle.document.proofs.Message.{profile-length}
 use Rattle.message.proofs.put_message.Statement.{statement}
 use Rattle.message.proofs.put_message.Tie as tie
 
@@ -26,7 +25,6 @@ module _ (c : tie.After-put-head) where
         c .put-head .ensures .ends,
         length-append (fieldOf 1 profile) (fieldOf 2 content),
         field-length 1 profile,
-        profile-length (start .args .p),
         field-length 2 content,
       )
 

@@ -4,6 +4,7 @@ use Prim.Native.Nat.{ℕ, _+_, _*_}
 use native.Mathlib.Omega.{arith}
 use borrow.Author.Needs.{needs}
 use Rattle.document.specs.Message.{stripFieldStart}
+use Rattle.document.proofs.Message.{profile-short}
 use Rattle.message.proofs.Fit.{fields-bound}
 use Rattle.message.proofs.strip_field.Statement.{statement}
 use Rattle.message.proofs.strip_field.Tie as tie
@@ -21,6 +22,7 @@ add-result c =
     (omega (
       arith,
       c .before .head-length .ensures,
+      profile-short (s .args .p),
       s .pre .1 .short,
       fields-bound (s .args .p) (s .args .m) (s .args .i) (s .pre .0) (s .pre .1),
     ))

@@ -4,14 +4,16 @@ use mathlib.Core.Bool.{true}
 use native.Mathlib.Omega.{arith}
 use borrow.Author.Needs.{needs}
 use borrow.Author.Tests.{not-true, not-false}
-use Rattle.document.specs.Profile.{shapeAccepted}
+use Rattle.document.specs.Profile.{shapeAccepted, editionAccepted}
 use Rattle.document.proofs.Decides.{decides-false}
 use Rattle.document.proofs.Accepts.{
   decides-constant,
   decides-strip,
+  decides-edition,
   shape-refused,
   constant-refused,
   strip-refused,
+  edition-refused,
   none-refused,
 }
 use Rattle.document.proofs.Profile.new.Statement.{statement}
@@ -45,8 +47,24 @@ returns-5 c =
 
 returns-6 : tie.Need-returns-6
 returns-6 c =
-    sym (none-refused _ (shape (c .before .before .before .before)) (decides-constant _ .1 (omega arith, omega arith))
-    (decides-strip _ .1 (omega arith, omega arith)))
+    let e = c .before in
+    sym (edition-refused _ (shape (e .before .before .before .before .before))
+    (decides-constant _ .1 (omega arith, omega arith)) (decides-strip _ .1 (omega arith, omega arith))
+    (sym (e .accepts-edition .ensures) ∙ not-true _ (c .if6 .taken)))
+
+-- past the last test
+edition : (c : tie.Else6)
+    → editionAccepted (c .before .before .before .before .before .before .before .before .args .p .edition) ≡ true
+edition c = sym (c .before .accepts-edition .ensures) ∙ not-false _ (c .if6 .left)
+
+cast-t13 : tie.Need-cast-t13
+cast-t13 c = omega (arith, decides-edition _ .0 (edition (c .before)))
+
+returns-7 : tie.Need-returns-7
+returns-7 c =
+    let e = c .before in
+    sym (none-refused _ (shape (e .before .before .before .before .before .before))
+    (decides-constant _ .1 (omega arith, omega arith)) (decides-strip _ .1 (omega arith, omega arith)) (edition e))
 
 pub new-spec : {M : Type 1} → statement M
 new-spec =
@@ -58,5 +76,8 @@ new-spec =
     returns-3
     returns-4
     returns-5
+    (λ c κs. search needs)
+    returns-6
     (λ c. search needs)
-    returns-6)
+    cast-t13
+    returns-7)

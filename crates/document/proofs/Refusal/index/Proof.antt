@@ -14,19 +14,20 @@ use Rattle.document.proofs.Refusal.index.Tie as tie
 
 -- the variants without an index, by their places in the enum
 abbrev unnamed : List ℕ
-unnamed = 0 ∷ 1 ∷ 2 ∷ 3 ∷ 4 ∷ 5 ∷ 6 ∷ 9 ∷ []
+unnamed = 0 ∷ 1 ∷ 2 ∷ 3 ∷ 4 ∷ 5 ∷ 6 ∷ 7 ∷ 10 ∷ []
 
 none : (r : Refusal) → OneOf unnamed (tagOf the-type r) → 0 ≡ indexOf r
 unfolding indexOf
 none refusals.Shape k = refl
 none refusals.Constant k = refl
 none refusals.StripLength k = refl
+none refusals.Edition k = refl
 none refusals.OutOfRange k = refl
 none refusals.BufferLength k = refl
 none refusals.Form k = refl
 none refusals.Head k = refl
-none (refusals.Misplaced i) k = absurd (miss unnamed 7 tt k)
-none (refusals.Stale i) k = absurd (miss unnamed 8 tt k)
+none (refusals.Misplaced i) k = absurd (miss unnamed 8 tt k)
+none (refusals.Stale i) k = absurd (miss unnamed 9 tt k)
 none refusals.Ambiguous k = refl
 
 pub index-spec : {M : Type 1} → statement M
