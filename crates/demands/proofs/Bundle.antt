@@ -35,21 +35,23 @@ use Rattle.document.proofs.Message.{Whole, written-strip, message-ext}
 use Rattle.document.proofs.Bundle.{strips-whole, bundle-length}
 use Rattle.demands.specs.Tables.{Decided, none, line}
 use Rattle.demands.specs.Strips.{HasStrips, AlikeAt}
+use Rattle.demands.specs.Message.{byEdition}
 use Rattle.demands.specs.Bundle.{writeSentences, Demand1Write, WrittenBundle, Demand3Write, CutFrom}
 use Rattle.demands.proofs.Tables.{by-name}
 use Rattle.demands.proofs.Profile.{Granted, CallFor, call-for}
-use Rattle.demands.proofs.Message.{length-is, AsWanted, written-wanted}
+use Rattle.demands.proofs.Message.{bundle-length-is, AsWanted, written-wanted}
 use Rattle.demands.proofs.Whole.{all-fixed}
 
 -- ---- the call
 module _ (p : Profile) (f : Node) (x b : List ℕ) where
   abbrev Sizes : Type 0
-  Sizes = (length x ≡ p .n * p .a * p .s) × (length b ≡ 19 + length (planned p f) * (11 + p .s))
+  Sizes = (length x ≡ p .n * p .a * p .s) × (length b ≡ byEdition p 19 20 + length (planned p f) * (11 + p .s))
 
   decides-sizes : Decides (eqb (length x) (p .n * p .a * p .s) && eqb (length b) (bundleLength p f)) Sizes
   decides-sizes =
       decides-both _ _ (decides-eq (length x) _)
-      (decides-same _ (decides-eq (length b) _) (λ e. e ∙ length-is p 7 _) (λ e. e ∙ sym (length-is p 7 _)))
+      (decides-same _ (decides-eq (length b) _) (λ e. e ∙ bundle-length-is p _)
+      (λ e. e ∙ sym (bundle-length-is p _)))
 
   write-decided : Decided (writeTests p f x b) (writeSentences p f x b)
   unfolding writeTests writeSentences
@@ -100,8 +102,8 @@ module _ (p : Numbers) (f : ℕ) (r : Recording) (x b : List ℕ) where
     unfolding bundleOf lostContent recordingBytes fourBytes twoBytes
     strips-in i l = sym (written-strip wanted (lostContent node r) r (stripOf wanted x) whole i l)
 
-    total : length bundle ≡ 19 + length (planned wanted node) * (11 + p .s)
-    total = bundle-length wanted accepted x (sizes .0) r node below ∙ length-is wanted 7 _
+    total : length bundle ≡ byEdition wanted 19 20 + length (planned wanted node) * (11 + p .s)
+    total = bundle-length wanted accepted x (sizes .0) r node below ∙ bundle-length-is wanted _
 
     written-bundle : WrittenBundle p f r x b
     unfolding answerValue
@@ -109,7 +111,7 @@ module _ (p : Numbers) (f : ℕ) (r : Recording) (x b : List ℕ) where
       holds = left;
       strips = rw left strips-in;
       size = ap length left ∙ total
-          ∙ ap (λ (m : ℕ). 19 + m * (11 + p .s)) (planned-price wanted accepted node below);
+          ∙ ap (λ (m : ℕ). byEdition wanted 19 20 + m * (11 + p .s)) (planned-price wanted accepted node below);
       value = ap (λ o. answerValue (o .0)) (granted .is-done) ∙ sym (ap length left);
     }
       where

@@ -1,6 +1,6 @@
 -- Demand 3, whole.
 use Rattle.demands.specs.Demand3.{Demand3}
-use Rattle.demands.proofs.Plan.{demand-3-places, demand-3-walk, demand-3-plan}
+use Rattle.demands.proofs.Plan.{demand-3-places, demand-3-walk, demand-3-order, demand-3-plan}
 use Rattle.demands.proofs.Strips.{fits, one-column}
 use Rattle.demands.proofs.Rebuild.{
   demand-3-rebuild,
@@ -12,6 +12,7 @@ use Rattle.demands.proofs.Rebuild.{
   cut-column,
   cut-rebuilds,
   cut-for-wanted,
+  other-edition,
   whole-bundle,
 }
 use Rattle.demands.proofs.Bundle.{demand-3-write}
@@ -21,6 +22,7 @@ pub demand-3 : Demand3
 demand-3 = record {
   places = demand-3-places;
   walk = demand-3-walk;
+  order = demand-3-order;
   plan = demand-3-plan;
   fits = fits;
   one-column = one-column;
@@ -29,6 +31,7 @@ demand-3 = record {
   same-bundle = same-bundle;
   same-column = same-column;
   cut-for-wanted = cut-for-wanted;
+  other-edition = other-edition;
   same-answer = same-answer;
   write = demand-3-write;
   cut-passes = cut-passes;

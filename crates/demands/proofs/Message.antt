@@ -1,17 +1,19 @@
--- A message to read: where its fields stand, in document 01's numbers, and what a reader's tests decide.
+-- A message to read: where its fields stand, in the documents' numbers, and what a reader's tests decide.
 --
 -- AsWanted p content r qs b : the message b is as wanted: what holds of it exactly where no line of `messageSentences`
 --                             does (wanted-none, refuted-wanted)
 use mathlib.Core.Path.{_≡_, refl, sym, ap, ap₂, _∙_}
-use mathlib.Core.List.{List, _∷_, _++_}
-use Prim.Native.Nat.{ℕ, _+_, _*_, _<_}
+use mathlib.Core.Bool.{Bool, true, false, cond}
+use mathlib.Core.List.{List, [], _∷_, _++_}
+use Prim.Native.Nat.{ℕ, _+_, _*_, _/_, _%_, _≤_, _<_}
 use native.Mathlib.Omega.{arith}
+use lib.Dec.{eqb}
 use lib.ListN.{length, getD}
 use Rattle.lists.specs.Listed.{listed}
 use Rattle.lists.specs.Put.{slice}
 use Rattle.lists.specs.Each.{Each}
 use Rattle.lists.proofs.Slice.{slice-joined, slice-split}
-use Rattle.fields.specs.Fields.{twoBytes, fourBytes, opening}
+use Rattle.fields.specs.Fields.{twoBytes, fourBytes, opening, openingLength}
 use Rattle.document.specs.declared.Profile.{Profile}
 use Rattle.document.specs.declared.Place.{Place}
 use Rattle.document.specs.declared.Recording.{Recording}
@@ -21,7 +23,10 @@ use Rattle.document.specs.Refusals.{numberOf, indexOf, Decides}
 use Rattle.document.specs.Places.{place, placeAt}
 use Rattle.document.specs.Message.{
   recordingBytes,
+  editionBytes,
   profileContent,
+  profileContentLength,
+  profileFieldLength,
   messageLength,
   messageOf,
   placeIn,
@@ -45,6 +50,7 @@ use Rattle.document.proofs.Decides.{
   decided,
 }
 use Rattle.document.proofs.Message.{
+  profile-length,
   Whole,
   message-length,
   written-first,
@@ -55,6 +61,7 @@ use Rattle.document.proofs.Message.{
 }
 use Rattle.demands.specs.Tables.{Decided, line, numberIn, Numbered}
 use Rattle.demands.specs.Message.{
+  byEdition,
   fieldStart,
   Formed,
   Headed,
@@ -74,13 +81,57 @@ use Rattle.demands.proofs.Tables.{
   map-append,
 }
 
+-- ---- the numbers by the edition
+module _ (p : Profile) where
+  by-edition : (c : ℕ) → byEdition p (c + 6) (c + 7) ≡ c + profileContentLength p
+  unfolding byEdition
+  by-edition c = go (eqb (p .edition) 1) ∙ ap (λ (m : ℕ). c + m) (sym (profile-length p))
+    where
+      go : (first : Bool) → cond first (c + 6) (c + 7) ≡ c + cond first 6 7
+      go true = refl
+      go false = refl
+
+  pub content-number : byEdition p 6 7 ≡ profileContentLength p
+  unfolding byEdition
+  content-number = sym (profile-length p)
+
+  pub second-number : byEdition p 9 10 ≡ profileFieldLength p
+  second-number = by-edition 3
+
+  pub head-number : byEdition p 12 13 ≡ profileFieldLength p + openingLength
+  head-number = let e : byEdition p 12 13 ≡ 6 + profileContentLength p = by-edition 6 in omega (arith, e)
+
+  pub head-least : 12 ≤ byEdition p 12 13
+  unfolding byEdition
+  head-least = go (eqb (p .edition) 1)
+    where
+      go : (first : Bool) → 12 ≤ cond first 12 13
+      go true = omega arith
+      go false = omega arith
+
+  -- in a bundle, whose field 02 has 7 bytes of content
+  pub bundle-number : byEdition p 19 20 ≡ byEdition p 12 13 + 7
+  bundle-number =
+      let e : byEdition p 19 20 ≡ 13 + profileContentLength p = by-edition 13 in
+      omega (arith, e, head-number)
+
+  -- what field 01 opens with
+  pub first-number : opening 1 (profileContentLength p) ≡ 1 ∷ 0 ∷ byEdition p 6 7 ∷ []
+  unfolding byEdition opening twoBytes
+  first-number = ap (λ (m : ℕ). 1 ∷ m / 256 % 256 ∷ m % 256 ∷ []) (profile-length p) ∙ go (eqb (p .edition) 1)
+    where
+      go : (first : Bool)
+          → 1 ∷ cond first 6 7 / 256 % 256 ∷ cond first 6 7 % 256 ∷ [] ≡ 1 ∷ 0 ∷ cond first 6 7 ∷ []
+      go true = refl
+      go false = refl
+
 -- ---- where the fields stand
 module _ (p : Profile) (m : ℕ) where
   field-is : (i : ℕ) → stripFieldStart p m i ≡ fieldStart p m i
   unfolding stripFieldStart
-  field-is i = ap₂ (λ (h w : ℕ). h + i * w) (omega arith) (omega arith)
+  field-is i = ap₂ (λ (h w : ℕ). h + i * w) (omega (arith, head-number p)) (omega arith)
 
-  pub length-is : (P : ℕ) → messageLength p m P ≡ 12 + m + P * (11 + p .s)
+  pub length-is : (P : ℕ) → messageLength p m P ≡ byEdition p 12 13 + m + P * (11 + p .s)
   unfolding stripFieldStart
   length-is P = field-is P
 
@@ -121,6 +172,22 @@ module _ (p : Profile) (m : ℕ) where
     pub opening-is : slice b at 3 ≡ slice b (fieldStart p m i) 3
     opening-is = ap (λ (u : ℕ). slice b u 3) (field-is i)
 
+pub bundle-length-is : (p : Profile) (P : ℕ) → messageLength p 7 P ≡ byEdition p 19 20 + P * (11 + p .s)
+bundle-length-is p P = length-is p 7 P ∙ ap (λ (h : ℕ). h + P * (11 + p .s)) (sym (bundle-number p))
+
+-- the content of field 01
+module _ (p : Profile) (b : List ℕ) where
+  abbrev fieldOne : List ℕ
+  fieldOne = p .n ∷ p .k ∷ p .a ∷ p .t ∷ (twoBytes (p .s) ++ byEdition p [] (p .edition ∷ []))
+
+  pub content-read : slice b 3 (profileContentLength p) ≡ profileContent p → slice b 3 (byEdition p 6 7) ≡ fieldOne
+  unfolding profileContent editionBytes byEdition
+  content-read e = ap (slice b 3) (content-number p) ∙ e
+
+  pub read-content : slice b 3 (byEdition p 6 7) ≡ fieldOne → slice b 3 (profileContentLength p) ≡ profileContent p
+  unfolding profileContent editionBytes byEdition
+  read-content e = ap (slice b 3) (sym (content-number p)) ∙ e
+
 -- ---- what the tests decide
 module _ (p : Profile) (content : List ℕ) (r : Recording) (qs : List Place) (b : List ℕ) where
   abbrev m : ℕ
@@ -141,20 +208,30 @@ module _ (p : Profile) (content : List ℕ) (r : Recording) (qs : List Place) (b
       (decides-both _ _ (decides-list _ _) (decides-all P _ (λ i. decides-list _ _)))))
       (λ h. record {
         total = h .0 ∙ length-is p m P;
-        field-01 = h .1 .0;
-        field-02 = h .1 .1 .0;
+        field-01 = h .1 .0 ∙ first-number p;
+        field-02 = ap (λ (u : ℕ). slice b u 3) (second-number p) ∙ h .1 .1 .0;
         fields-03 = λ i l. sym (opening-is p m b i) ∙ h .1 .1 .1 i l;
       })
       (λ h. (
         h .total ∙ sym (length-is p m P),
-        (h .field-01, (h .field-02, λ i l. opening-is p m b i ∙ h .fields-03 i l)),
+        (
+          h .field-01 ∙ sym (first-number p),
+          (
+            ap (λ (u : ℕ). slice b u 3) (sym (second-number p)) ∙ h .field-02,
+            λ i l. opening-is p m b i ∙ h .fields-03 i l,
+          ),
+        ),
       ))
 
   decides-headed : Decides (headed p content b) (Headed p m content b)
-  unfolding headed profileContent
+  unfolding headed
   decides-headed =
       decides-same _ (decides-both _ _ (decides-list _ _) (decides-list _ _))
-      (λ h. record { field-01 = h .0; field-02 = h .1 }) (λ h. (h .field-01, h .field-02))
+      (λ h. record {
+        field-01 = content-read p b (h .0);
+        field-02 = ap (λ (u : ℕ). slice b u m) (head-number p) ∙ h .1;
+      })
+      (λ h. (read-content p b (h .field-01), ap (λ (u : ℕ). slice b u m) (sym (head-number p)) ∙ h .field-02))
 
   decides-placed : (i : ℕ) → Decides (placed (placeAt qs i) b (start i)) (placeRead b (fieldStart p m i) ≡ placeAt qs i)
   unfolding placed
@@ -218,18 +295,22 @@ module _ (p : Profile) (content : List ℕ) (r : Recording) (qs : List Place) (b
 module _ (p : Profile) (content : List ℕ) (r : Recording) (strips : Place → List ℕ) {qs : List Place}
     (whole : Each (Whole r strips (p .s)) qs) where
   pub written-wanted : AsWanted p content r qs (messageOf p content r strips qs)
-  unfolding opening twoBytes profileContent
+  unfolding opening twoBytes
   written-wanted = record {
     is-formed = record {
       total = message-length p content r strips whole ∙ length-is p (length content) (length qs);
-      field-01 = written-first p content r strips whole .0;
-      field-02 = written-second p content r strips whole .0;
+      field-01 = written-first p content r strips whole .0 ∙ first-number p;
+      field-02 = ap (λ (u : ℕ). slice message u 3) (second-number p) ∙ written-second p content r strips whole .0;
       fields-03 = λ i l. sym (opening-is p (length content) _ i) ∙ written-opening p content r strips whole i l;
     };
     is-headed = record {
-      field-01 = written-first p content r strips whole .1;
-      field-02 = written-second p content r strips whole .1;
+      field-01 = content-read p message (written-first p content r strips whole .1);
+      field-02 = ap (λ (u : ℕ). slice message u (length content)) (head-number p)
+          ∙ written-second p content r strips whole .1;
     };
     is-placed = written-place p content r strips whole;
     is-fresh = written-recording p content r strips whole;
   }
+    where
+      message : List ℕ
+      message = messageOf p content r strips qs

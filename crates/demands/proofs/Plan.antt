@@ -1,8 +1,14 @@
 -- Planning: demand 1, and the planned places of demand 3.
-use mathlib.Core.Path.{refl, ap}
+use mathlib.Core.Path.{_≡_, refl, ap}
+use mathlib.Core.Bool.{Bool}
 use mathlib.Core.List.{List, [], _∷_, _++_}
-use Prim.Native.Nat.{ℕ, _*_, _<_}
+use Prim.Native.Nat.{ℕ, _+_, _*_, _<_}
+use native.Mathlib.Omega.{arith}
 use lib.ListN.{length, drop}
+use borrow.Author.Tests.{eq-eqb, ne-eqb}
+use Rattle.lists.specs.Listed.{around}
+use Rattle.lists.specs.Each.{Rises}
+use Rattle.lists.proofs.Around.{around-zero, rising-rises, around-rises}
 use Rattle.document.specs.declared.Numbers.{Numbers}
 use Rattle.document.specs.declared.Profile.{Profile}
 use Rattle.document.specs.declared.Node.{Node}
@@ -11,7 +17,18 @@ use Rattle.document.specs.declared.Refusal.the-variants.{OutOfRange}
 use Rattle.document.specs.declared.Answer.the-variants.{Done}
 use Rattle.document.specs.Refusals.{numberOf, indexOf, answerValue}
 use Rattle.document.specs.Profile.{profileOf}
-use Rattle.document.specs.Plan.{walkOf, planned, planBytes, planTests, planWith, planOf}
+use Rattle.document.specs.Plan.{
+  isOwn,
+  isDiagonal,
+  isOffDiagonal,
+  walkStart,
+  walkOf,
+  planned,
+  planBytes,
+  planTests,
+  planWith,
+  planOf,
+}
 use Rattle.document.proofs.Decides.{decides-lt, decides-not, decided}
 use Rattle.document.proofs.Bounds.{A>0}
 use Rattle.document.proofs.Walks.{Sound, complete-sound, walk-complete, planned-over}
@@ -19,7 +36,15 @@ use Rattle.document.proofs.Price.{over-price}
 use Rattle.document.proofs.Planned.{over-distinct, over-off-lost}
 use Rattle.document.proofs.Chosen.{planned-within}
 use Rattle.demands.specs.Tables.{Decided, none, line}
-use Rattle.demands.specs.Plan.{planSentences, Demand1Plan, Demand3Places, Demand3Walk, Demand3Plan}
+use Rattle.demands.specs.Plan.{
+  planSentences,
+  Demand1Plan,
+  Demand3Places,
+  Demand3Walk,
+  distanceFrom,
+  Demand3Order,
+  Demand3Plan,
+}
 use Rattle.demands.proofs.Tables.{by-name}
 use Rattle.demands.proofs.Profile.{Granted, CallFor, call-for}
 
@@ -58,7 +83,25 @@ demand-3-places p acc f h w complete =
     }
 
 pub demand-3-walk : Demand3Walk
-demand-3-walk p f = (walk-complete p f, planned-over p f)
+demand-3-walk p f h = (walk-complete p f h, planned-over p f)
+
+pub demand-3-order : Demand3Order
+unfolding walkStart
+demand-3-order p f h = record {
+  own = rising-rises (p .n) (isOwn (p .a) f);
+  edition-1 = λ e.
+      let first : walkStart p f ≡ 0 = rw (eq-eqb _ _ e) in
+      (rises-from-zero first (isDiagonal (p .a) f), rises-from-zero first (isOffDiagonal (p .a) f));
+  edition-2 = λ e.
+      let second : walkStart p f ≡ f .0 + 1 = rw (ne-eqb (p .edition) 1 (λ one. omega arith)) in
+      (rises-around second (isDiagonal (p .a) f), rises-around second (isOffDiagonal (p .a) f));
+}
+  where
+    rises-from-zero : {b : ℕ} → b ≡ 0 → (P : ℕ → Bool) → Rises (λ j. j) (around (p .n) b P)
+    rises-from-zero e P = rw (e, around-zero) (rising-rises (p .n) P)
+
+    rises-around : {b : ℕ} → b ≡ f .0 + 1 → (P : ℕ → Bool) → Rises (distanceFrom (p .n) f) (around (p .n) b P)
+    rises-around e P = rw e (around-rises (p .n) (f .0 + 1) P (omega arith))
 
 pub demand-3-plan : Demand3Plan
 unfolding planSentences answerValue
@@ -67,7 +110,7 @@ demand-3-plan p f x e = record {
   number = ap (λ o. answerValue (o .0)) (granted .is-done);
   places = rw planned-over
       (demand-3-places (profileOf p) (granted .accepted) node below (walkOf (profileOf p) node)
-      (walk-complete (profileOf p) node));
+      (walk-complete (profileOf p) node below));
 }
   where
     node : Node

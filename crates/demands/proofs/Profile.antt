@@ -8,7 +8,7 @@
 -- CallFor p tests table lines before outcome done : what is known of a call with the numbers p; its tests, its table
 --                                and its lines are those past the profile's
 use mathlib.Core.Path.{_≡_, refl, ap, subst, _∙_}
-use mathlib.Core.Logic.{_⊎_, inl, inr}
+use mathlib.Core.Logic.{_≢_, _⊎_, inl, inr}
 use mathlib.Core.List.{List, [], _++_}
 use Prim.Native.Nat.{ℕ, _≤_, _<_}
 use native.Mathlib.Decide.{ℕ-discrete, decLt}
@@ -27,6 +27,7 @@ use Rattle.document.proofs.Accepts.{
   decides-shape,
   decides-constant,
   decides-strip,
+  decides-edition,
   failed-accepted,
   accepted,
   one-list,
@@ -65,11 +66,20 @@ inside : (S : ℕ) → (S ≡ 0) ⊎ (512 < S) → (1 ≤ S) × (S ≤ 512) → 
 inside S (inl e) h = omega arith
 inside S (inr l) h = omega arith
 
+-- what is not within 1..2 is neither
+neither : (e : ℕ) → ((1 ≤ e) × (e ≤ 2) → ⊥) → (e ≢ 1) × (e ≢ 2)
+neither e n = ((λ one. n (omega arith, omega arith)), λ two. n (omega arith, omega arith))
+
+either : (e : ℕ) → (e ≢ 1) × (e ≢ 2) → (1 ≤ e) × (e ≤ 2) → ⊥
+either e h within = h .1 (omega (arith, h .0))
+
 module _ (p : Numbers) where
   pub accepted-none : Accepted (profileOf p) → NoneHolds (profileSentences p)
   unfolding profileSentences
   accepted-none acc =
       let strip : (p .s ≡ 0) ⊎ (512 < p .s) → ⊥ = λ m. inside (p .s) m (acc .some-bytes, acc .short) in
+      let edition : (p .edition ≢ 1) × (p .edition ≢ 2) → ⊥ =
+      λ h. either (p .edition) h (acc .first-edition, acc .last-edition) in
       search line-by-line
 
   -- the tests of a profile decide them
@@ -81,7 +91,10 @@ module _ (p : Numbers) where
       line refl (decides-not _ (decides-constant (p .t)))
       (λ constant.
       line refl (decides-same _ (decides-not _ (decides-strip (p .s))) (outside (p .s)) (inside (p .s)))
-      (λ strip. none)))
+      (λ strip.
+      line refl
+      (decides-same _ (decides-not _ (decides-edition (p .edition))) (neither (p .edition)) (either (p .edition)))
+      (λ edition. none))))
 
   none-accepted : NoneHolds (profileSentences p) → Accepted (profileOf p)
   none-accepted f = failed-accepted p (decided-failed profile-lines f)

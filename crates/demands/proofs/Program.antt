@@ -1,5 +1,6 @@
 -- What the small program writes.
 use mathlib.Core.Path.{_≡_, refl, ap}
+use mathlib.Core.Logic.{_≢_}
 use mathlib.Core.Bool.{true, false}
 use mathlib.Core.List.{List}
 use Prim.Native.Nat.{ℕ, _*_}
@@ -10,7 +11,7 @@ use Rattle.document.specs.declared.Refusal.{Refusal}
 use Rattle.document.specs.declared.Answer.{Answer}
 use Rattle.document.specs.declared.Answer.the-variants.{Done, Refused}
 use Rattle.document.specs.Refusals.{numberOf, answerNumber}
-use Rattle.document.specs.Program.{refusalLine, outputOf, programOf}
+use Rattle.document.specs.Program.{wantedNumbers, refusalLine, outputOf, programOf}
 use Rattle.document.proofs.Refusals.{never-zero}
 use Rattle.demands.specs.Profile.{profileSentences}
 use Rattle.demands.specs.Message.{stripSentences, messageSentences}
@@ -43,10 +44,19 @@ others-alone input =
     let size : length (lent input) ≡ numbers input .a * numbers input .s = length-replicate _ 0 in
     search (line-by-line, tt) depth 20
 
+-- the edition is 1; no other line has the number 13
+no-thirteen : (input : List ℕ) → Only (Other 13) (table input)
+unfolding rebuildSentences profileSentences bundleSentences messageSentences stripSentences numberOf wantedNumbers
+no-thirteen input =
+    let first : (numbers input .edition ≢ 1) × (numbers input .edition ≢ 2) → ⊥ = λ h. h .0 refl in
+    search (line-by-line, tt) depth 20
+
 pub demand-1-program : Demand1Program
-unfolding programOf numberOf
+unfolding programOf numberOf wantedNumbers
 demand-1-program input = record {
   column = column-out _;
   line = λ r first. line-out _ r (demand-1-rebuild _ _ _ _ _ .refuses .given r .1 first);
   never-five = λ first. held (others-alone input) (first-holds first);
+  edition-1 = refl;
+  never-thirteen = λ first. held (no-thirteen input) (first-holds first);
 }

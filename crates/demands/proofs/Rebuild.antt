@@ -1,11 +1,14 @@
 -- A rebuild: demand 1, and demand 3 from the bundle on.
 use mathlib.Core.Path.{_≡_, refl, sym, ap, _∙_}
+use mathlib.Core.Bool.{cond}
 use mathlib.Core.List.{List, _∷_, _++_}
 use Prim.Native.Nat.{ℕ, _+_, _*_, _≤_, _<_}
 use native.Mathlib.Omega.{arith}
+use lib.Dec.{eqb}
 use lib.ListN.{length, getD, drop}
 use Rattle.lists.specs.Each.{Bytes}
 use Rattle.lists.specs.Listed.{listed}
+use Rattle.lists.specs.Put.{slice}
 use Rattle.lists.proofs.Slice.{slice-at, slice-length}
 use Rattle.fields.specs.Fields.{twoBytes, fourBytes}
 use Rattle.document.specs.declared.Numbers.{Numbers}
@@ -27,6 +30,7 @@ use Rattle.document.proofs.Bounds.{room}
 use Rattle.document.proofs.Walks.{Sound, walk-sound, planned-over}
 use Rattle.demands.specs.Tables.{Decided, line}
 use Rattle.demands.specs.Strips.{EncodedArray, HasStrips}
+use Rattle.demands.specs.Message.{byEdition, Formed, Headed, messageSentences}
 use Rattle.demands.specs.Bundle.{bundleSentences, CutFrom}
 use Rattle.demands.specs.Rebuild.{
   rebuildSentences,
@@ -42,13 +46,21 @@ use Rattle.demands.specs.Rebuild.{
   CutColumn,
   CutRebuilds,
   CutForWanted,
+  OtherEdition,
   WholeBundle,
 }
-use Rattle.demands.proofs.Tables.{by-name, NoneHolds, line-by-line}
+use Rattle.demands.proofs.Tables.{by-name, in-order, NoneHolds, line-by-line}
 use Rattle.demands.proofs.Profile.{Granted, CallFor, call-for, call-answer}
 use Rattle.demands.proofs.Strips.{same-rebuilt, column-of, bundle-gives, some-fits}
-use Rattle.demands.proofs.Message.{message-decided, message-numbered, AsWanted, wanted-none, refuted-wanted}
-use Rattle.demands.proofs.Whole.{head-fixes, same-recording}
+use Rattle.demands.proofs.Message.{
+  length-is,
+  message-decided,
+  message-numbered,
+  AsWanted,
+  wanted-none,
+  refuted-wanted,
+}
+use Rattle.demands.proofs.Whole.{form-fixes, head-fixes, same-recording}
 use Rattle.demands.proofs.Bundle.{
   cut-is,
   cut-accepted,
@@ -124,7 +136,13 @@ module _ (p : Numbers) (f : ℕ) (r : Recording) (b y : List ℕ) where
         (size, λ o m. rw (slice-at b _ (p .s) o (omega (arith, size))) (small _ (omega (arith, size, within))))
       where
         within : stripFieldStart profile lostContentLength i + stripFieldLength (p .s) ≤ length b
-        within = omega (arith, room i P (stripFieldLength (p .s)) l, is-wanted .is-formed .total)
+        within =
+            omega (
+              arith,
+              room i P (stripFieldLength (p .s)) l,
+              is-wanted .is-formed .total,
+              length-is profile lostContentLength P,
+            )
 
         size : length (bundleStrip profile b i) ≡ p .s
         size = slice-length b _ (p .s) (omega (arith, within))
@@ -204,15 +222,34 @@ module _ (p : Numbers) (f : ℕ) where
   pub cut-rebuilds : CutRebuilds p f
   cut-rebuilds x recording r b y cut E e = cut-column x recording r b y cut e x E (λ i l. refl)
 
+  -- field 02 stands in one place
+  seconds-alike : (numbers : Numbers) → numbers .edition ≡ p .edition → {c d b : List ℕ}
+      → Headed (profileOf numbers) 7 c b → Headed wanted 7 d b → c ≡ d
+  unfolding byEdition
+  seconds-alike numbers edition {b = b} H K =
+      sym (H .field-02) ∙ ap (λ (e : ℕ). slice b (cond (eqb e 1) 12 13) 7) edition ∙ K .field-02
+
   pub cut-for-wanted : CutForWanted p f
   unfolding lostContent recordingBytes fourBytes twoBytes
   cut-for-wanted numbers node x recording r b y cut e =
-      let H = cut-wanted numbers node x recording b cut .is-headed in
-      let K = is-wanted p f r b y e .is-headed in (
-        head-fixes numbers p (cut-accepted numbers node x recording b cut .short) (acc p f r b y e .short) H K,
-        ap (λ (v : List ℕ). getD v 0 0) (sym (H .field-02) ∙ K .field-02),
-        λ small short. same-recording recording r small short (ap (drop 1) (sym (H .field-02) ∙ K .field-02)),
+      let c = cut-wanted numbers node x recording b cut in
+      let w = is-wanted p f r b y e in
+      let accepted = cut-accepted numbers node x recording b cut in
+      let edition = form-fixes (profileOf numbers) wanted accepted (acc p f r b y e) b (c .is-formed) (w .is-formed) in
+      let second = seconds-alike numbers edition (c .is-headed) (w .is-headed) in (
+        head-fixes numbers p (accepted .short) (acc p f r b y e .short) edition (c .is-headed) (w .is-headed),
+        ap (λ (v : List ℕ). getD v 0 0) second,
+        λ small short. same-recording recording r small short (ap (drop 1) second),
       )
+
+  pub other-edition : OtherEdition p f
+  unfolding rebuildSentences bundleSentences messageSentences
+  other-edition numbers node x recording r b y cut other accepted below size =
+      let c = cut-wanted numbers node x recording b cut in
+      let unformed : Formed wanted 7 (length (planned wanted (record { 0 = f }))) b → ⊥ =
+      λ F. other (form-fixes (profileOf numbers) wanted (cut-accepted numbers node x recording b cut) accepted b
+      (c .is-formed) F) in
+      rebuild-call p f r b y .stops accepted (search (in-order, below, size, unformed))
 
   -- so its strips are those at the planned places
   strips-of : (numbers : Numbers) (lost : ℕ) (x : List ℕ) (recording r : Recording) (b y : List ℕ)

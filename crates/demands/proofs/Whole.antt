@@ -1,13 +1,16 @@
 -- What a message fixes that is as wanted: its field 01, the profile; its scenario and its run, the recording; with its
 -- strips, all its bytes.
 use mathlib.Core.Path.{_≡_, sym, ap, ap₂, _∙_}
-use mathlib.Core.List.{List, _∷_}
+use mathlib.Core.Bool.{cond}
+use mathlib.Core.List.{List, [], _∷_, _++_}
 use Prim.Native.Nat.{ℕ, zero, suc, _+_, _*_, _-_, _/_, _%_, _≤_, _<_}
 use native.Mathlib.Nat.{zero-mul, suc-mul}
-use native.Mathlib.Decide.{decLt}
+use native.Mathlib.Decide.{ℕ-discrete, decLt}
 use native.Mathlib.Omega.{arith}
+use lib.Dec.{eqb}
 use lib.ListN.{length, getD, take, drop}
 use lib.Seq.{ext-getD}
+use borrow.Author.Tests.{eq-eqb, ne-eqb}
 use Rattle.lists.specs.Put.{slice}
 use Rattle.lists.specs.Each.{Each}
 use Rattle.lists.proofs.Slice.{slice-at}
@@ -16,12 +19,11 @@ use Rattle.document.specs.declared.Numbers.{Numbers}
 use Rattle.document.specs.declared.Profile.{Profile}
 use Rattle.document.specs.declared.Place.{Place}
 use Rattle.document.specs.declared.Recording.{Recording}
-use Rattle.document.specs.Profile.{profileOf}
+use Rattle.document.specs.Profile.{Accepted, profileOf}
 use Rattle.document.specs.Places.{placeAt}
 use Rattle.document.specs.Message.{
   recordingBytes,
   recordingLength,
-  profileContent,
   profileContentLength,
   profileFieldLength,
   stripFieldLength,
@@ -44,9 +46,17 @@ use Rattle.document.proofs.Message.{
   written-recording,
   written-strip,
 }
-use Rattle.demands.specs.Message.{Headed}
+use Rattle.demands.specs.Message.{byEdition, Formed, Headed}
 use Rattle.demands.specs.Rebuild.{InSixBytes}
-use Rattle.demands.proofs.Message.{length-is, opening-is, AsWanted}
+use Rattle.demands.proofs.Message.{
+  first-number,
+  second-number,
+  head-number,
+  read-content,
+  length-is,
+  opening-is,
+  AsWanted,
+}
 
 -- ---- the profile
 two-bytes : (a b : ℕ) → a < 65536 → b < 65536 → twoBytes a ≡ twoBytes b → a ≡ b
@@ -58,29 +68,59 @@ two-bytes a b l m e =
 
 -- numbers with the same content of field 01
 contentOf : Numbers → List ℕ
-contentOf p = p .n ∷ p .k ∷ p .a ∷ p .t ∷ twoBytes (p .s)
+contentOf p = p .n ∷ p .k ∷ p .a ∷ p .t ∷ (twoBytes (p .s) ++ byEdition (profileOf p) [] (p .edition ∷ []))
 
-same-numbers : (p₁ p₂ : Numbers) → p₁ .s ≤ 512 → p₂ .s ≤ 512 → contentOf p₁ ≡ contentOf p₂ → p₁ ≡ p₂
-unfolding contentOf
-same-numbers p₁ p₂ l m e =
+same-numbers : (p₁ p₂ : Numbers) → p₁ .s ≤ 512 → p₂ .s ≤ 512 → p₁ .edition ≡ p₂ .edition → contentOf p₁ ≡ contentOf p₂
+    → p₁ ≡ p₂
+unfolding contentOf twoBytes
+same-numbers p₁ p₂ l m edition e =
     let n : p₁ .n ≡ p₂ .n = ap (λ (v : List ℕ). getD v 0 0) e in
     let k : p₁ .k ≡ p₂ .k = ap (λ (v : List ℕ). getD v 1 0) e in
     let a : p₁ .a ≡ p₂ .a = ap (λ (v : List ℕ). getD v 2 0) e in
     let t : p₁ .t ≡ p₂ .t = ap (λ (v : List ℕ). getD v 3 0) e in
-    let s : p₁ .s ≡ p₂ .s = two-bytes (p₁ .s) (p₂ .s) (omega arith) (omega arith) (ap (drop 4) e) in
-    ap (λ (v : ℕ). made v (p₁ .k) (p₁ .a) (p₁ .t) (p₁ .s)) n
-    ∙ ap (λ (v : ℕ). made (p₂ .n) v (p₁ .a) (p₁ .t) (p₁ .s)) k
-    ∙ ap (λ (v : ℕ). made (p₂ .n) (p₂ .k) v (p₁ .t) (p₁ .s)) a
-    ∙ ap₂ (λ (v w : ℕ). made (p₂ .n) (p₂ .k) (p₂ .a) v w) t s
+    let s : p₁ .s ≡ p₂ .s = two-bytes (p₁ .s) (p₂ .s) (omega arith) (omega arith) (ap (λ v. take 2 (drop 4 v)) e) in
+    ap₂ (λ (v w : ℕ). made v w (p₁ .a) (p₁ .t) (p₁ .s) (p₁ .edition)) n k
+    ∙ ap₂ (λ (v w : ℕ). made (p₂ .n) (p₂ .k) v w (p₁ .s) (p₁ .edition)) a t
+    ∙ ap₂ (λ (v w : ℕ). made (p₂ .n) (p₂ .k) (p₂ .a) (p₂ .t) v w) s edition
   where
-    made : ℕ → ℕ → ℕ → ℕ → ℕ → Numbers
-    made n k a t s = record { n = n; k = k; a = a; t = t; s = s }
+    made : ℕ → ℕ → ℕ → ℕ → ℕ → ℕ → Numbers
+    made n k a t s edition = record { n = n; k = k; a = a; t = t; s = s; edition = edition }
 
--- one message is not headed for two profiles
+-- what a message opens with tells the edition
+module _ (p₁ p₂ : Profile) (acc₁ : Accepted p₁) (acc₂ : Accepted p₂) (b : List ℕ) where
+  opening-fixes : slice b 0 3 ≡ 1 ∷ 0 ∷ byEdition p₁ 6 7 ∷ [] → slice b 0 3 ≡ 1 ∷ 0 ∷ byEdition p₂ 6 7 ∷ []
+      → p₁ .edition ≡ p₂ .edition
+  unfolding byEdition
+  opening-fixes h k = go (ℕ-discrete (p₁ .edition) 1) (ℕ-discrete (p₂ .edition) 1)
+    where
+      lengths : _≡_ {A = ℕ} (cond (eqb (p₁ .edition) 1) 6 7) (cond (eqb (p₂ .edition) 1) 6 7)
+      lengths = ap (λ (v : List ℕ). getD v 2 0) (sym h ∙ k)
+
+      go : Dec (p₁ .edition ≡ 1) → Dec (p₂ .edition ≡ 1) → p₁ .edition ≡ p₂ .edition
+      go (yes e) (yes d) = e ∙ sym d
+      go (yes e) (no d) = absurd (omega (arith, rw (eq-eqb _ _ e, ne-eqb _ _ d) at lengths))
+      go (no e) (yes d) = absurd (omega (arith, rw (ne-eqb _ _ e, eq-eqb _ _ d) at lengths))
+      go (no e) (no d) =
+          omega (
+            arith,
+            e,
+            d,
+            acc₁ .first-edition,
+            acc₁ .last-edition,
+            acc₂ .first-edition,
+            acc₂ .last-edition,
+          )
+
+  pub form-fixes : {m w P Q : ℕ} → Formed p₁ m P b → Formed p₂ w Q b → p₁ .edition ≡ p₂ .edition
+  form-fixes F G = opening-fixes (F .field-01) (G .field-01)
+
+-- one message is not headed for two profiles of one edition
 pub head-fixes : (p₁ p₂ : Numbers) {m w : ℕ} {c d b : List ℕ} → p₁ .s ≤ 512 → p₂ .s ≤ 512
-    → Headed (profileOf p₁) m c b → Headed (profileOf p₂) w d b → p₁ ≡ p₂
-unfolding contentOf
-head-fixes p₁ p₂ small short H K = same-numbers p₁ p₂ small short (sym (H .field-01) ∙ K .field-01)
+    → p₁ .edition ≡ p₂ .edition → Headed (profileOf p₁) m c b → Headed (profileOf p₂) w d b → p₁ ≡ p₂
+unfolding contentOf byEdition
+head-fixes p₁ p₂ {b = b} small short edition H K =
+    same-numbers p₁ p₂ small short edition
+    (sym (H .field-01) ∙ ap (λ (e : ℕ). slice b 3 (cond (eqb e 1) 6 7)) edition ∙ K .field-01)
 
 -- ---- the recording
 -- the number in four bytes
@@ -159,21 +199,23 @@ module _ (p : Profile) (content : List ℕ) (r : Recording) (strips : Place → 
 
   -- fields 01 and 02
   first : AlikeIn 0 (profileFieldLength p)
-  unfolding opening twoBytes profileContent
   first =
       alike-join b written 0 openingLength (profileFieldLength p)
-      (alike-slice b written 0 openingLength (w .is-formed .field-01 ∙ sym (written-first p content r strips whole .0)))
+      (alike-slice b written 0 openingLength
+      (w .is-formed .field-01 ∙ sym (first-number p) ∙ sym (written-first p content r strips whole .0)))
       (alike-slice b written openingLength (profileContentLength p)
-      (w .is-headed .field-01 ∙ sym (written-first p content r strips whole .1)))
+      (read-content p b (w .is-headed .field-01) ∙ sym (written-first p content r strips whole .1)))
 
   second : AlikeIn (profileFieldLength p) (headLength p (length content))
   unfolding opening
   second =
       alike-join b written (profileFieldLength p) (profileFieldLength p + openingLength) _
       (alike-slice b written (profileFieldLength p) openingLength
-      (w .is-formed .field-02 ∙ sym (written-second p content r strips whole .0)))
+      (ap (λ (u : ℕ). slice b u 3) (sym (second-number p)) ∙ w .is-formed .field-02
+      ∙ sym (written-second p content r strips whole .0)))
       (λ o low high. alike-slice b written (profileFieldLength p + openingLength) (length content)
-      (w .is-headed .field-02 ∙ sym (written-second p content r strips whole .1)) o low (omega arith))
+      (ap (λ (u : ℕ). slice b u (length content)) (sym (head-number p)) ∙ w .is-headed .field-02
+      ∙ sym (written-second p content r strips whole .1)) o low (omega arith))
 
   module _ (i : ℕ) (l : i < length qs) where
     abbrev at : ℕ

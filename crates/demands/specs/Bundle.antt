@@ -11,7 +11,7 @@
 --                           are wanted: those of a message with 7 bytes of content in field 02 (Message.antt)
 --
 -- planned p f are the planned places, bundleStrip p b i is the strip i of the bundle b: document/specs/Plan.antt and
--- Bundle.antt. The numbers are the documents' own: K2's 19 + P(11+S).
+-- Bundle.antt. The numbers are the documents' own: K2's 19 + P(11+S), in edition 2 one byte more.
 use mathlib.Core.Path.{_≡_}
 use mathlib.Core.List.{List, [], _∷_, _++_}
 use Prim.Native.Nat.{ℕ, _+_, _*_, _<_}
@@ -30,16 +30,18 @@ use Rattle.document.specs.Bundle.{bundleOf, writeTests, writeOf, bundleStrip}
 use Rattle.demands.specs.Tables.{Sentence}
 use Rattle.demands.specs.Profile.{Demand1For}
 use Rattle.demands.specs.Strips.{HasStrips}
-use Rattle.demands.specs.Message.{messageSentences}
+use Rattle.demands.specs.Message.{byEdition, messageSentences}
 
 -- ---- writing a bundle
--- 5: 'a lent buffer .. has the wrong length': a stored array has nAS bytes, a bundle 19 + P(11+S).
+-- 5: 'a lent buffer .. has the wrong length': a stored array has nAS bytes, a bundle 19 + P(11+S), or 20 + P(11+S) in
+-- edition 2.
 unfoldable pub writeSentences : Profile → Node → List ℕ → List ℕ → List Sentence
 writeSentences p f x b =
     record { refusal = OutOfRange; says = f .0 < p .n → ⊥ }
     ∷ record {
       refusal = BufferLength;
-      says = (length x ≡ p .n * p .a * p .s) × (length b ≡ 19 + length (planned p f) * (11 + p .s)) → ⊥;
+      says = (length x ≡ p .n * p .a * p .s) × (length b ≡ byEdition p 19 20 + length (planned p f) * (11 + p .s))
+          → ⊥;
     }
     ∷ []
 
@@ -59,8 +61,8 @@ module _ (p : Numbers) (f : ℕ) (r : Recording) (x b : List ℕ) where
     -- 'it takes its strips from the planned places'
     pub strips : HasStrips (profileOf p) (planned (profileOf p) (record { 0 = f })) x
         (bundleStrip (profileOf p) written)
-    -- K2: 'a bundle 19 + P(11+S)', P the number of places
-    pub size : length written ≡ 19 + priceOf (p .n) (p .k) (p .a) * (11 + p .s)
+    -- K2: 'a bundle 19 + P(11+S)', P the number of places; one byte more in edition 2
+    pub size : length written ≡ byEdition (profileOf p) 19 20 + priceOf (p .n) (p .k) (p .a) * (11 + p .s)
     -- 'On success the answer is 0, with .. the length for a bundle'
     pub value : answerValue (writeOf p f r x b .0) ≡ length written
 

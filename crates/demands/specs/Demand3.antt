@@ -4,7 +4,7 @@
 -- Demand3 : demand 3
 use Prim.Native.Nat.{ℕ}
 use Rattle.document.specs.declared.Numbers.{Numbers}
-use Rattle.demands.specs.Plan.{Demand3Places, Demand3Walk, Demand3Plan}
+use Rattle.demands.specs.Plan.{Demand3Places, Demand3Walk, Demand3Order, Demand3Plan}
 use Rattle.demands.specs.Strips.{Fits, OneColumn}
 use Rattle.demands.specs.Bundle.{Demand3Write}
 use Rattle.demands.specs.Rebuild.{
@@ -17,6 +17,7 @@ use Rattle.demands.specs.Rebuild.{
   CutColumn,
   CutRebuilds,
   CutForWanted,
+  OtherEdition,
   WholeBundle,
 }
 use Rattle.demands.specs.Recordings.{OneRecording, MixedRefused, TogetherPasses, OldRefused}
@@ -26,6 +27,8 @@ pub record Demand3 : Type 0 where
   -- drive. Their number is the one the plan, where not refused, answers with, and it equals the formula there.'
   pub places : Demand3Places
   pub walk : Demand3Walk
+  -- K6: 'its places then in the walk's order'
+  pub order : Demand3Order
   pub plan : Demand3Plan
   -- 'Whatever bytes stand at those places, some encoded array has them'
   pub fits : Fits
@@ -43,6 +46,7 @@ pub record Demand3 : Type 0 where
   -- beyond the demand, what a bundle is, written and read
   pub write : Demand3Write
   pub cut-for-wanted : (p : Numbers) (f : ℕ) → CutForWanted p f
+  pub other-edition : (p : Numbers) (f : ℕ) → OtherEdition p f
   pub cut-passes : (p : Numbers) (f : ℕ) → CutPasses p f
   pub cut-column : (p : Numbers) (f : ℕ) → CutColumn p f
   pub cut-rebuilds : (p : Numbers) (f : ℕ) → CutRebuilds p f

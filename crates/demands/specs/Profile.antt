@@ -1,4 +1,4 @@
--- Demand 1 for a call that is given a profile's numbers: the refusals 1, 2 and 3, and then those of the call.
+-- Demand 1 for a call that is given a profile's numbers: the refusals 1, 2, 3 and 13, and then those of the call.
 --
 -- profileSentences p : the lines for a profile's numbers
 -- profileLines       : the numbers of these lines
@@ -6,28 +6,30 @@
 -- Demand1For p tests table lines before outcome : a call that is given the numbers p refuses by these lines, and then
 --                      by its own, for an accepted profile. Shown of every such call in proofs/Profile.antt: call-for
 use mathlib.Core.Path.{_≡_}
-use mathlib.Core.Logic.{_⊎_}
+use mathlib.Core.Logic.{_≢_, _⊎_}
 use mathlib.Core.List.{List, [], _∷_, _++_}
 use Prim.Native.Nat.{ℕ, _≤_, _<_}
 use Rattle.document.specs.declared.Numbers.{Numbers}
 use Rattle.document.specs.declared.Profile.{Profile}
-use Rattle.document.specs.declared.Refusal.the-variants.{Shape, Constant, StripLength}
+use Rattle.document.specs.declared.Refusal.the-variants.{Shape, Constant, StripLength, Edition}
 use Rattle.document.specs.declared.Checked.the-variants.{Passed}
 use Rattle.document.specs.declared.Answer.{Answer}
 use Rattle.document.specs.Refusals.{Test}
 use Rattle.document.specs.Profile.{ShapeAccepted, Accepted, profileTests, profileOf, checkedOf, checkedAnswer}
 use Rattle.demands.specs.Tables.{Sentence, Demand1Of}
 
--- 1: 'n, k or A not accepted'. 2: 't not in 2..255'. 3: 'S is 0 or above 512'.
+-- 1: 'n, k or A not accepted'. 2: 't not in 2..255'. 3: 'S is 0 or above 512'. K6: 'an edition other than 1 or 2 is 13,
+-- tried after 3'.
 unfoldable pub profileSentences : Numbers → List Sentence
 profileSentences p =
     record { refusal = Shape; says = ShapeAccepted (p .n) (p .k) (p .a) → ⊥ }
     ∷ record { refusal = Constant; says = (2 ≤ p .t) × (p .t ≤ 255) → ⊥ }
     ∷ record { refusal = StripLength; says = (p .s ≡ 0) ⊎ (512 < p .s) }
+    ∷ record { refusal = Edition; says = (p .edition ≢ 1) × (p .edition ≢ 2) }
     ∷ []
 
 abbrev pub profileLines : List (ℕ × ℕ)
-profileLines = (1, 0) ∷ (2, 0) ∷ (3, 0) ∷ []
+profileLines = (1, 0) ∷ (2, 0) ∷ (3, 0) ∷ (13, 0) ∷ []
 
 -- `Profile::new`, with which every call begins that is given a profile's numbers: it refuses by these lines and is lent
 -- nothing; what it hands out is the profile with these numbers, accepted.

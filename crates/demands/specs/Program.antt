@@ -9,6 +9,7 @@
 -- own input           : the lines of that rebuild past those of the profile
 -- table input         : its table
 -- ProgramWrites input : the column where the rebuild is not refused, otherwise the line of its first refusal; never 5
+--                       nor 13
 -- Demand1Program      : so it is for all inputs
 -- Shown in proofs/Program.antt: demand-1-program.
 use mathlib.Core.Path.{_≡_}
@@ -18,7 +19,7 @@ use lib.ListN.{drop, replicate}
 use Rattle.document.specs.declared.Numbers.{Numbers}
 use Rattle.document.specs.declared.Recording.{Recording}
 use Rattle.document.specs.declared.Refusal.{Refusal}
-use Rattle.document.specs.declared.Refusal.the-variants.{BufferLength}
+use Rattle.document.specs.declared.Refusal.the-variants.{BufferLength, Edition}
 use Rattle.document.specs.Profile.{profileOf}
 use Rattle.document.specs.Rebuild.{rebuildOf}
 use Rattle.document.specs.Program.{programHead, wantedNumbers, wantedNode, wantedRecording, refusalLine, programOf}
@@ -58,6 +59,9 @@ module _ (input : List ℕ) where
     pub line : (r : Refusal) → FirstOf table r → programOf input ≡ refusalLine r
     -- the lent column has the right length
     pub never-five : FirstOf table BufferLength → ⊥
+    -- K6: 'the small program stays with edition 1'
+    pub edition-1 : numbers .edition ≡ 1
+    pub never-thirteen : FirstOf table Edition → ⊥
 
 abbrev pub Demand1Program : Type 1
 Demand1Program = (input : List ℕ) → ProgramWrites input

@@ -17,6 +17,7 @@
 -- CutColumn                  : the column rebuilt from a bundle cut from any stored array           cut-column
 -- CutRebuilds                : from an encoded array, the rebuild gives the lost column back        cut-rebuilds
 -- CutForWanted               : a bundle cut for another profile, node or recording is refused       cut-for-wanted
+-- OtherEdition               : one cut in another edition is refused with 6                         other-edition
 -- WholeBundle                : what is not refused is what is cut from any array with its strips    whole-bundle
 -- Shown in proofs/Rebuild.antt, under the name beside each.
 --
@@ -38,9 +39,10 @@ use Rattle.document.specs.declared.Profile.{Profile}
 use Rattle.document.specs.declared.Node.{Node}
 use Rattle.document.specs.declared.Place.{Place}
 use Rattle.document.specs.declared.Recording.{Recording}
-use Rattle.document.specs.declared.Refusal.the-variants.{OutOfRange, BufferLength}
+use Rattle.document.specs.declared.Refusal.the-variants.{OutOfRange, BufferLength, Form}
+use Rattle.document.specs.declared.Answer.the-variants.{Refused}
 use Rattle.document.specs.Refusals.{answerNumber, answerValue}
-use Rattle.document.specs.Profile.{profileOf}
+use Rattle.document.specs.Profile.{Accepted, profileOf}
 use Rattle.document.specs.Encoding.{columnIn}
 use Rattle.document.specs.Plan.{planned}
 use Rattle.document.specs.Bundle.{bundleOf, bundleStrip}
@@ -144,13 +146,21 @@ module _ (p : Numbers) (f : ℕ) where
       (x : List ℕ) (recording r : Recording) (b y : List ℕ) → CutFrom p f x recording b → EncodedArray wanted x
       → NotRefused p f r b y → rebuildOf p f r b y .1 ≡ columnIn wanted x f
 
-  -- A bundle cut for any numbers, node and recording, and not refused: they are the wanted ones. Refusals 6 and 7
-  -- see to it: fields 01 and 02 have them.
+  -- A bundle cut for any numbers, node and recording, and not refused: they are the wanted ones, the edition among
+  -- them. Refusals 6 and 7 see to it: fields 01 and 02 have them.
   abbrev pub CutForWanted : Type 0
   CutForWanted =
       (numbers : Numbers) (node : ℕ) (x : List ℕ) (recording r : Recording) (b y : List ℕ)
       → CutFrom numbers node x recording b → NotRefused p f r b y
       → (numbers ≡ p) × (node ≡ f) × (InSixBytes recording → InSixBytes r → recording ≡ r)
+
+  -- K6: '6 and 7 read the edition too': past 1 to 5, a bundle cut in another edition, whatever else it is cut for, is
+  -- refused with 6.
+  abbrev pub OtherEdition : Type 0
+  OtherEdition =
+      (numbers : Numbers) (node : ℕ) (x : List ℕ) (recording r : Recording) (b y : List ℕ)
+      → CutFrom numbers node x recording b → numbers .edition ≢ p .edition → Accepted wanted → f < p .n
+      → length y ≡ p .a * p .s → rebuildOf p f r b y ≡ (Refused Form, y)
 
   -- A bundle that is not refused is the one that is cut, for the wanted recording, from any array with its strips:
   -- refusals 6 to 9 leave no byte but the strips free.

@@ -30,6 +30,7 @@ use Rattle.document.specs.declared.Answer.the-variants.{Refused}
 use Rattle.document.specs.Profile.{Accepted, profileOf}
 use Rattle.document.specs.Plan.{planned}
 use Rattle.document.specs.Rebuild.{rebuildOf}
+use Rattle.demands.specs.Message.{byEdition}
 use Rattle.demands.specs.Bundle.{CutFrom}
 use Rattle.demands.specs.Rebuild.{NotRefused, InSixBytes}
 
@@ -37,13 +38,19 @@ module _ (p : Numbers) (f : ℕ) where
   abbrev plan : List Place
   plan = planned (profileOf p) (record { 0 = f })
 
-  -- 'a bundle 19 + P(11+S)': the head takes 19 bytes, each field 03 takes 11+S.
+  -- 'a bundle 19 + P(11+S)': the head takes 19 bytes, in edition 2 20, each field 03 takes 11+S.
+  abbrev headBytes : ℕ
+  headBytes = byEdition (profileOf p) 19 20
+
+  abbrev stripStart : ℕ → ℕ
+  stripStart i = headBytes + i * (11 + p .s)
+
   pub record PutTogether (r : Recording) (recordingOf : ℕ → Recording) (b : List ℕ) : Type 0 where
-    pub size : length b ≡ 19 + length plan * (11 + p .s)
-    pub head : (x c : List ℕ) × CutFrom p f x r c × (slice b 0 19 ≡ slice c 0 19)
+    pub size : length b ≡ headBytes + length plan * (11 + p .s)
+    pub head : (x c : List ℕ) × CutFrom p f x r c × (slice b 0 headBytes ≡ slice c 0 headBytes)
     pub strips : (i : ℕ) → i < length plan
         → (x c : List ℕ) × CutFrom p f x (recordingOf i) c
-        × (slice b (19 + i * (11 + p .s)) (11 + p .s) ≡ slice c (19 + i * (11 + p .s)) (11 + p .s))
+        × (slice b (stripStart i) (11 + p .s) ≡ slice c (stripStart i) (11 + p .s))
 
   -- The bundles may be cut from any stored arrays, and the strips be of any number of recordings. Whichever recording w
   -- is wanted, no mixture passes.
@@ -66,9 +73,9 @@ module _ (p : Numbers) (f : ℕ) where
       (r : Recording) (recordingOf : ℕ → Recording) (b y : List ℕ) → PutTogether r recordingOf b
       → length y ≡ p .a * p .s → ((i : ℕ) → i < length plan → recordingOf i ≡ r) → NotRefused p f r b y
 
-  -- 'old bundles get 6'. Of document 01: '02, length 5', where field 02 starts at 9, and 'Length: 17 + P(9+S)'. Every
-  -- old bundle has that opening, also one for another profile that has the length of a new one; the length is that of
-  -- an old bundle for the wanted profile and node.
+  -- 'old bundles get 6', whichever edition is wanted. Of document 01: '02, length 5', where field 02 starts at 9, and
+  -- 'Length: 17 + P(9+S)'. Every old bundle has that opening, also one for another profile that has the length of a new
+  -- one; the length is that of an old bundle for the wanted profile and node.
   abbrev pub OldForm : List ℕ → Type 0
   OldForm b = (slice b 9 3 ≡ 2 ∷ 0 ∷ 5 ∷ []) ⊎ (length b ≡ 17 + length plan * (9 + p .s))
 

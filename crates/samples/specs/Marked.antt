@@ -1,7 +1,7 @@
 -- 'Sample numbers (marked M: to be shown)': the marked cases of document 01 in one list, shown by one claim about it.
 --
 -- Case                : what a definition gives, and what document 01 says it gives
--- profile t           : the numbers (4,2,2), S = 1, with the coupling constant t
+-- profile t           : the numbers (4,2,2), S = 1, edition 1, with the coupling constant t
 -- inverseBytes i      : an inverse as a list of one byte; the empty list if there is none
 -- outcome o           : an answer and a lent buffer as one list: number, value, bytes
 -- outerColumns o      : the same with the columns of nodes 0 and 3 alone
@@ -18,7 +18,7 @@ use mathlib.Core.List.{List, [], _∷_, _++_, map}
 use Prim.Native.Nat.{ℕ}
 use native.Mathlib.Decide.{ℕ-discrete, decLt}
 use lib.ListN.{take, drop, replicate}
-use Rattle.lists.specs.Listed.{listed, patched, rising, all}
+use Rattle.lists.specs.Listed.{listed, patched, rising, along, all}
 use Rattle.lists.specs.Put.{slice, same}
 use Rattle.fields.specs.Fields.{twoBytes, fourBytes, opening}
 use Rattle.gf256.specs.declared.Inverted.{Inverted}
@@ -39,6 +39,7 @@ use Rattle.algebra.specs.Rebuild.{rowSymbol, otherAt, rebuiltAt}
 use Rattle.document.specs.Places.{samePlace}
 use Rattle.document.specs.Message.{
   recordingBytes,
+  editionBytes,
   profileContent,
   placeIn,
   recordingIn,
@@ -52,7 +53,14 @@ use Rattle.document.specs.Message.{
 }
 use Rattle.document.specs.Bundle.{lostContent, bundleTests}
 use Rattle.document.specs.Rebuild.{positionOf, givenAt, rebuiltOver, rebuiltOf, rebuildTests, rebuildWith, rebuildOf}
-use Rattle.document.specs.Profile.{shapeAccepted, constantAccepted, stripAccepted, profileTests, onAccepted}
+use Rattle.document.specs.Profile.{
+  shapeAccepted,
+  constantAccepted,
+  stripAccepted,
+  editionAccepted,
+  profileTests,
+  onAccepted,
+}
 use Rattle.document.specs.ByteField.{bytes, byte, number}
 use Rattle.document.specs.Encoding.{
   start,
@@ -72,6 +80,7 @@ use Rattle.document.specs.Plan.{
   isDiagonal,
   isOffDiagonal,
   pairsAt,
+  walkStart,
   planned,
   plannedAt,
   planBytes,
@@ -108,9 +117,9 @@ pub record Case : Type 0 where
   pub gives : List ℕ
   pub says : List ℕ
 
--- 'All with (4,2,2), S = 1', and a coupling constant.
+-- 'All with (4,2,2), S = 1', and a coupling constant; in edition 1.
 abbrev pub profile : ℕ → Numbers
-profile t = record { n = 4; k = 2; a = 2; t = t; s = 1 }
+profile t = record { n = 4; k = 2; a = 2; t = t; s = 1; edition = 1 }
 
 abbrev joined : List (List ℕ) → List ℕ
 joined [] = []
@@ -198,13 +207,14 @@ marked =
 -- Each marked case gives what document 01 says.
 pub shown : map (λ c. c .gives) marked ≡ map (λ c. c .says) marked
 unfolding marked lent encodeOf encodeWith encodeTests onAccepted profileTests shapeAccepted constantAccepted
-    stripAccepted tried answerNumber answerValue encoded laidOut coupledAt constantOf baseAt byteAt start listed sum
-    weight byte number bytes _⊕_ _⊗_ double bitProduct squares inverse invertedOf ℕ-discrete decLt planOf planWith
-    planTests planned pairsAt planBytes isOwn isDiagonal isOffDiagonal rising rebuildOf rebuildWith rebuildTests
-    bundleTests messageTests opened formed headed placed fresh placeIn recordingIn stripFieldStart plannedAt slice
-    same all opening twoBytes fourBytes profileContent lostContent recordingBytes rebuiltOf rebuiltOver givenAt
-    positionOf samePlace columnOf rebuiltAt rowSymbol otherAt base factor readOf readWith readTests listAccepted
-    numberOf ambiguous indexOf eliminationOf squareOf coefficientLine coefficientAt endFrom pivotIn lifted stepped
-    filled multiplierAt addedScaled patched unitSquare unitLine surveyOf surveyWith surveyTests resultOf foundFrom
-    failsAt firstIn sets setAt surveyAnswer outcomeNumber failingPosition lookedIn
+    stripAccepted editionAccepted tried answerNumber answerValue encoded laidOut coupledAt constantOf baseAt byteAt
+    start listed sum weight byte number bytes _⊕_ _⊗_ double bitProduct squares inverse invertedOf ℕ-discrete decLt
+    planOf planWith planTests planned pairsAt planBytes isOwn isDiagonal isOffDiagonal rising along walkStart
+    rebuildOf rebuildWith rebuildTests bundleTests messageTests opened formed headed placed fresh placeIn
+    recordingIn stripFieldStart plannedAt slice same all opening twoBytes fourBytes profileContent editionBytes
+    lostContent recordingBytes rebuiltOf rebuiltOver givenAt positionOf samePlace columnOf rebuiltAt rowSymbol
+    otherAt base factor readOf readWith readTests listAccepted numberOf ambiguous indexOf eliminationOf squareOf
+    coefficientLine coefficientAt endFrom pivotIn lifted stepped filled multiplierAt addedScaled patched unitSquare
+    unitLine surveyOf surveyWith surveyTests resultOf foundFrom failsAt firstIn sets setAt surveyAnswer
+    outcomeNumber failingPosition lookedIn
 shown = refl

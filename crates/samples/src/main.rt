@@ -1,5 +1,6 @@
-// Runs document 01's samples and edges, and document 02's K2, K4 and K10, and prints what each gives. The file `stdout`
-// says what the documents say; the marked cases are shown in specs/Marked.antt besides.
+// Runs document 01's samples and edges, and document 02's K2, K4, K6 and K10, and prints what each gives. The file
+// `stdout` says what the documents say; the marked cases are shown in specs/Marked.antt besides, and K6's plans in
+// specs/Editions.antt.
 ghost use Prim.Native.Nat.{_≤_, _<_};
 use document::Answer;
 use document::Numbers;
@@ -63,9 +64,28 @@ fn print_inverse(a: u8) {
     }
 }
 
-// The numbers of a profile, in document 01's order.
+// The numbers of a profile, in document 01's order, of edition 1.
 fn numbers(n: usize, k: usize, a: usize, t: usize, s: usize) -> Numbers {
-    Numbers { n, k, a, t, s }
+    Numbers {
+        n,
+        k,
+        a,
+        t,
+        s,
+        edition: 1,
+    }
+}
+
+// (4,2,2) with t = 2 and strips of one byte, in an edition.
+fn small(edition: usize) -> Numbers {
+    Numbers {
+        n: 4,
+        k: 2,
+        a: 2,
+        t: 2,
+        s: 1,
+        edition,
+    }
 }
 
 // Encodes data of (4,2,2) with strips of one byte into the array.
@@ -99,13 +119,17 @@ fn print_plan(lost: usize) {
     print_places(&places);
 }
 
-// The bundle of M4's array for a lost node, scenario 7 and a run of it.
-fn cut_sample(lost: usize, run: u16, bundle: &mut [u8]) {
+// The bundle of M4's array for a lost node, scenario 7 and a run of it, in an edition.
+fn cut_in(edition: usize, lost: usize, run: u16, bundle: &mut [u8]) {
     let input = [0x01u8, 0x00, 0x02, 0x04];
     let mut array = [0u8; 8];
     encode_small(2, &input, &mut array);
-    let p = numbers(4, 2, 2, 2, 1);
+    let p = small(edition);
     bundle::write_bundle(p, lost, Recording { scenario: 7, run }, &array, bundle);
+}
+
+fn cut_sample(lost: usize, run: u16, bundle: &mut [u8]) {
+    cut_in(1, lost, run, bundle);
 }
 
 // A refusal's number, and for 9 the index of its strip.
@@ -121,9 +145,9 @@ fn print_refusal(r: Refusal) {
     }
 }
 
-// The answer of a rebuild of (4,2,2) from a bundle for scenario 7, run 0: the column or the refusal.
-fn print_rebuilt(lost: usize, bundle: &[u8]) {
-    let p = numbers(4, 2, 2, 2, 1);
+// The answer of a rebuild of (4,2,2) in an edition from a bundle for scenario 7, run 0: the column or the refusal.
+fn print_rebuilt_in(edition: usize, lost: usize, bundle: &[u8]) {
+    let p = small(edition);
     let mut column = [0xFFu8; 2];
     let r = Recording {
         scenario: 7,
@@ -134,6 +158,10 @@ fn print_rebuilt(lost: usize, bundle: &[u8]) {
         Answer::Done(_) => print_bytes(&column),
         Answer::Refused(refusal) => print_refusal(refusal),
     }
+}
+
+fn print_rebuilt(lost: usize, bundle: &[u8]) {
+    print_rebuilt_in(1, lost, bundle);
 }
 
 // M7, M8: the column of a lost node, from the bundle of M4's array, which is of run 0.
@@ -241,6 +269,52 @@ fn print_mixed() {
     print(b"\n");
 }
 
+// K6: the places of a plan, which fill the lent buffer.
+fn print_walk(name: &[u8], p: Numbers, lost: usize, places: &mut [u8]) {
+    print(name);
+    plan::plan(p, lost, places);
+    print_places(places);
+    print(b"\n");
+}
+
+// K6: plans that tell the editions apart, t = 2 and S = 1.
+fn print_walks() {
+    let six = numbers(6, 2, 2, 2, 1);
+    let nine = numbers(9, 6, 3, 2, 1);
+    let mut short = [0xFFu8; 6];
+    let mut long = [0xFFu8; 24];
+    print_walk(b"(6,2,2) node 2, edition 1", six, 2, &mut short);
+    print_walk(
+        b"(6,2,2) node 2, edition 2",
+        Numbers { edition: 2, ..six },
+        2,
+        &mut short,
+    );
+    print_walk(
+        b"(9,6,3) node 4, edition 2",
+        Numbers { edition: 2, ..nine },
+        4,
+        &mut long,
+    );
+}
+
+// K6: the bundle of M4 for node 0, run 0, in edition 2, read in both editions, and that of edition 1 read in edition 2.
+fn print_editions() {
+    let mut second = [0u8; 68];
+    cut_in(2, 0, 0, &mut second);
+    print(b"bundle, edition 2");
+    print_bytes(&second);
+    print(b"\nread in edition 2");
+    print_rebuilt_in(2, 0, &second);
+    print(b"\nread in edition 1");
+    print_rebuilt_in(1, 0, &second);
+    let mut first = [0u8; 67];
+    cut_in(1, 0, 0, &mut first);
+    print(b"\nthat of edition 1 in edition 2");
+    print_rebuilt_in(2, 0, &first);
+    print(b"\n");
+}
+
 // The number of places of a plan.
 fn print_price(name: &[u8], n: usize, k: usize, a: usize) {
     let p = numbers(n, k, a, 2, 1);
@@ -327,6 +401,17 @@ fn print_edges() {
     print_edge(b"k = 1 with (4,1,2)", numbers(4, 1, 2, 2, 1), 2, 8);
 }
 
+// K6: 13, after 3 and before 5.
+fn print_edition_edges() {
+    print_edge(b"edition 0", small(0), 4, 8);
+    print_edge(b"edition 1", small(1), 4, 8);
+    print_edge(b"edition 2", small(2), 4, 8);
+    print_edge(b"edition 3", small(3), 4, 8);
+    print_edge(b"edition 257", small(257), 4, 8);
+    print_edge(b"edition 0, S = 513", Numbers { s: 513, ..small(0) }, 4, 8);
+    print_edge(b"edition 0, an array of 7 bytes", small(0), 4, 7);
+}
+
 // The numbers of places of document 01's examples.
 fn print_prices() {
     print_price(b"(4,2,2)", 4, 2, 2);
@@ -345,6 +430,9 @@ fn main() {
     print_bundle();
     print_old_bundle();
     print_mixed();
+    print_walks();
+    print_editions();
     print_edges();
+    print_edition_edges();
     print_prices();
 }
