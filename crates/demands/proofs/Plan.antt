@@ -90,7 +90,7 @@ unfolding walkStart
 demand-3-order p f h = record {
   own = rising-rises (p .n) (isOwn (p .a) f);
   edition-1 = λ e.
-      let first : walkStart p f ≡ 0 = rw (eq-eqb _ _ e) in
+      let first : walkStart p f ≡ 0 = rw (eq-eqb (p .edition) 1 e) in
       (rises-from-zero first (isDiagonal (p .a) f), rises-from-zero first (isOffDiagonal (p .a) f));
   edition-2 = λ e.
       let second : walkStart p f ≡ f .0 + 1 = rw (ne-eqb (p .edition) 1 (λ one. omega arith)) in
