@@ -1,6 +1,6 @@
 /* Compares what the header says with what the calls answer, through the header as a host uses it: lengths and ceilings
- * over every accepted (n, k, A), the names of the refusals, the inverses, the version. C99 that is C++ as well:
- * compiled as both. */
+ * over every accepted (n, k, A) in both editions, the names of the refusals, the inverses, the version. C99 that is C++
+ * as well: compiled as both. */
 #include <stdarg.h>
 #include <stdio.h>
 #include <stdlib.h>
@@ -11,9 +11,8 @@
 /* The recording, in numbers that no narrower type holds, and how many bytes it takes in a field. */
 enum { SCENARIO = 0x01020304, RUN = 0x0506, RECORDING = 6 };
 
-/* Where the first strip's field starts in a bundle: field 02 ends there, and its recording with it. Where in that field
- * the row, the scenario's last byte and the run's last byte stand. */
-enum { FIRST_FIELD = 19, ROW = 4, SCENARIO_END = 8, RUN_END = 10 };
+/* Where in a strip's field the row, the scenario's last byte and the run's last byte stand. */
+enum { ROW = 4, SCENARIO_END = 8, RUN_END = 10 };
 
 /* What is lent: room for the longest buffers, and for one byte more. */
 static uint8_t data[WHAUPFIELD_MAX_DATA + 1], array[WHAUPFIELD_MAX_ARRAY + 1], places[WHAUPFIELD_MAX_PLAN + 1];
@@ -114,6 +113,7 @@ typedef size_t number_of(struct whaupfield_profile);
 struct call {
     const char *name;
     uint64_t (*answer)(struct whaupfield_profile p, size_t lost, size_t reading, size_t writing);
+    int of_lost;                  /* whether it is given a lost node */
     number_of *reading, *writing; /* the right lengths; without a buffer for reading NULL */
     uint64_t (*due)(struct whaupfield_profile p);
     unsigned wrong_reading; /* what another length for reading gets */
@@ -122,14 +122,14 @@ struct call {
 
 /* In this order: a bundle is cut from what was encoded, and a rebuild is given that bundle. */
 static const struct call calls[] = {
-    {"encode", encode, whaupfield_data_length, whaupfield_array_length, nothing, WHAUPFIELD_BUFFER_LENGTH, 0},
-    {"plan", plan, NULL, whaupfield_plan_length, places_as_value, 0, 1},
-    {"write_bundle", write_bundle, whaupfield_array_length, whaupfield_bundle_length, bundle_length_as_value,
+    {"encode", encode, 0, whaupfield_data_length, whaupfield_array_length, nothing, WHAUPFIELD_BUFFER_LENGTH, 0},
+    {"plan", plan, 1, NULL, whaupfield_plan_length, places_as_value, 0, 1},
+    {"write_bundle", write_bundle, 1, whaupfield_array_length, whaupfield_bundle_length, bundle_length_as_value,
      WHAUPFIELD_BUFFER_LENGTH, 0},
-    {"rebuild", rebuild, whaupfield_bundle_length, whaupfield_column_length, nothing, WHAUPFIELD_FORM, 0},
-    {"read_back", read_back, whaupfield_data_length, whaupfield_data_length, first_set_read, WHAUPFIELD_BUFFER_LENGTH,
-     0},
-    {"survey", survey, NULL, k_of, first_set, 0, 0},
+    {"rebuild", rebuild, 1, whaupfield_bundle_length, whaupfield_column_length, nothing, WHAUPFIELD_FORM, 0},
+    {"read_back", read_back, 0, whaupfield_data_length, whaupfield_data_length, first_set_read,
+     WHAUPFIELD_BUFFER_LENGTH, 0},
+    {"survey", survey, 0, NULL, k_of, first_set, 0, 0},
 };
 
 enum { CALLS = sizeof calls / sizeof *calls };
@@ -153,6 +153,9 @@ static const struct ceiling ceilings[] = {
 };
 
 enum { CEILINGS = sizeof ceilings / sizeof *ceilings };
+
+/* How a profile is printed. */
+#define PROFILE_FORM "n=%zu k=%zu A=%zu t=%zu S=%zu edition=%zu"
 
 static size_t met[CEILINGS]; /* the largest that an accepted profile has */
 static size_t profiles, cases;
@@ -178,7 +181,7 @@ static void compare_call(const struct call *c, struct whaupfield_profile p, size
 
     cases++;
     if (answer != due)
-        disagree("%s n=%zu k=%zu A=%zu t=%zu S=%zu lost=%zu, %zu bytes lent for reading and %zu for writing: "
+        disagree("%s " PROFILE_FORM " lost=%zu, %zu bytes lent for reading and %zu for writing: "
                  "the library answers %u with %llu, expected %u with %llu",
                  c->name, WHAUPFIELD_PROFILE(p), lost, reading, writing, WHAUPFIELD_NUMBER(answer),
                  (unsigned long long)WHAUPFIELD_VALUE(answer), WHAUPFIELD_NUMBER(due),
@@ -200,10 +203,12 @@ static void compare_lengths(const struct call *c, struct whaupfield_profile p, s
     compare_call(c, p, lost, reading + 1, writing, c->wrong_reading);
 }
 
+/* A call that is given no lost node is compared once, with the first. */
 static void compare_calls(struct whaupfield_profile p, size_t lost)
 {
     for (int i = 0; i < CALLS; i++)
-        compare_lengths(&calls[i], p, lost);
+        if (calls[i].of_lost || lost == 0)
+            compare_lengths(&calls[i], p, lost);
 }
 
 /* The buffers here have room for lengths up to the header's ceilings: a longer one ends the comparison. */
@@ -213,19 +218,20 @@ static void meet_ceilings(struct whaupfield_profile p)
         size_t number = ceilings[i].of(p);
 
         if (number > ceilings[i].most)
-            disagree("%s is %zu, and n=%zu k=%zu A=%zu t=%zu S=%zu has %zu", ceilings[i].name, ceilings[i].most,
+            disagree("%s is %zu, and " PROFILE_FORM " has %zu", ceilings[i].name, ceilings[i].most,
                      WHAUPFIELD_PROFILE(p), number);
         if (number > met[i])
             met[i] = number;
     }
 }
 
-/* Whether numbers are accepted is the library's word: a plan for node 0 with room for any plan gets 0, or 1, 2 or 3. */
+/* Whether numbers are accepted is the library's word: a plan for node 0 with room for any plan gets 0, or 1, 2, 3 or
+ * 13. */
 static void compare_profile(struct whaupfield_profile p)
 {
     unsigned number = WHAUPFIELD_NUMBER(plan(p, 0, 0, WHAUPFIELD_MAX_PLAN));
 
-    if (number >= WHAUPFIELD_SHAPE && number <= WHAUPFIELD_STRIP_LENGTH)
+    if ((number >= WHAUPFIELD_SHAPE && number <= WHAUPFIELD_STRIP_LENGTH) || number == WHAUPFIELD_EDITION)
         return;
     profiles++;
     meet_ceilings(p);
@@ -233,16 +239,17 @@ static void compare_profile(struct whaupfield_profile p)
         compare_calls(p, lost);
 }
 
-/* n, k and A to past their ceilings, told apart by the digits of a number. */
+/* n, k and A to past their ceilings, told apart by the digits of a number, in the editions from 0 to 3. */
 static void compare_shapes(size_t t, size_t s)
 {
     const size_t to = WHAUPFIELD_MAX_NODES + 3;
 
-    for (size_t shape = 0; shape < to * to * to; shape++) {
-        struct whaupfield_profile p = {shape / (to * to), shape / to % to, shape % to, t, s};
+    for (size_t shape = 0; shape < to * to * to; shape++)
+        for (size_t edition = 0; edition < 4; edition++) {
+            struct whaupfield_profile p = {shape / (to * to), shape / to % to, shape % to, t, s, edition};
 
-        compare_profile(p);
-    }
+            compare_profile(p);
+        }
 }
 
 static void compare_strips(size_t t)
@@ -267,8 +274,9 @@ static void compare_any_numbers(void)
     const size_t to = sizeof any / sizeof *any;
     volatile size_t kept;
 
-    for (size_t i = 0; i < to * to * to * to; i++, cases++) {
-        struct whaupfield_profile p = {any[i % to], any[i / to % to], any[i / to / to % to], 2, any[i / to / to / to]};
+    for (size_t i = 0; i < to * to * to * to * to; i++, cases++) {
+        size_t n = any[i % to], k = any[i / to % to], a = any[i / to / to % to], rest = i / to / to / to;
+        struct whaupfield_profile p = {n, k, a, 2, any[rest % to], any[rest / to]};
 
         kept = whaupfield_data_length(p) + whaupfield_array_length(p) + whaupfield_column_length(p);
         kept = kept + whaupfield_plan_length(p) + whaupfield_bundle_length(p);
@@ -287,28 +295,48 @@ static void compare_refusal(uint64_t answer, unsigned refusal, const char *name)
 
 #define COMPARE_REFUSAL(answer, refusal) compare_refusal(answer, refusal, #refusal)
 
+/* Where the first strip's field starts in a bundle: field 02 ends there, and its recording with it. */
+static size_t first_field(struct whaupfield_profile p)
+{
+    return p.edition == 1 ? 19 : 20;
+}
+
 /* A rebuild of node 0 from the bundle with one byte of the first strip's field changed. */
 static uint64_t rebuild_changed(struct whaupfield_profile p, size_t byte)
 {
     uint64_t answer;
 
-    bundle[FIRST_FIELD + byte] ^= 1;
+    bundle[first_field(p) + byte] ^= 1;
     answer = rebuild(p, 0, whaupfield_bundle_length(p), whaupfield_column_length(p));
-    bundle[FIRST_FIELD + byte] ^= 1;
+    bundle[first_field(p) + byte] ^= 1;
     return answer;
 }
 
-static void compare_refusals(void)
+/* A bundle of one edition is not in the form of the other, whichever of the two lengths is lent. */
+static void compare_two_editions(struct whaupfield_profile written, struct whaupfield_profile wanted)
 {
-    const struct whaupfield_profile p = {4, 2, 2, 2, 1}, uneven = {5, 2, 2, 2, 1}, small_t = {4, 2, 2, 1, 1};
-    const struct whaupfield_profile long_s = {4, 2, 2, 2, WHAUPFIELD_MAX_STRIP + 1}, t_5 = {4, 2, 2, 5, 1};
+    const size_t lengths[] = {whaupfield_bundle_length(written), whaupfield_bundle_length(wanted)};
+
+    COMPARE_REFUSAL(write_bundle(written, 0, whaupfield_array_length(written), lengths[0]), WHAUPFIELD_OK);
+    for (int i = 0; i < 2; i++)
+        COMPARE_REFUSAL(rebuild(wanted, 0, lengths[i], whaupfield_column_length(wanted)), WHAUPFIELD_FORM);
+}
+
+static void compare_refusals(size_t edition)
+{
+    const struct whaupfield_profile p = {4, 2, 2, 2, 1, edition}, uneven = {5, 2, 2, 2, 1, edition};
+    const struct whaupfield_profile small_t = {4, 2, 2, 1, 1, edition}, t_5 = {4, 2, 2, 5, 1, edition};
+    const struct whaupfield_profile long_s = {4, 2, 2, 2, WHAUPFIELD_MAX_STRIP + 1, edition};
+    const struct whaupfield_profile other = {4, 2, 2, 2, 1, 3 - edition}, neither = {4, 2, 2, 2, 1, 3};
     const size_t length = whaupfield_bundle_length(p), width = whaupfield_column_length(p);
     const uint8_t pair[2] = {0, 3};
 
+    compare_two_editions(other, p);
     COMPARE_REFUSAL(write_bundle(p, 0, whaupfield_array_length(p), length), WHAUPFIELD_OK);
     COMPARE_REFUSAL(plan(uneven, 0, 0, WHAUPFIELD_MAX_PLAN), WHAUPFIELD_SHAPE);
     COMPARE_REFUSAL(plan(small_t, 0, 0, WHAUPFIELD_MAX_PLAN), WHAUPFIELD_CONSTANT);
     COMPARE_REFUSAL(plan(long_s, 0, 0, WHAUPFIELD_MAX_PLAN), WHAUPFIELD_STRIP_LENGTH);
+    COMPARE_REFUSAL(plan(neither, 0, 0, WHAUPFIELD_MAX_PLAN), WHAUPFIELD_EDITION);
     COMPARE_REFUSAL(plan(p, p.n, 0, WHAUPFIELD_MAX_PLAN), WHAUPFIELD_OUT_OF_RANGE);
     COMPARE_REFUSAL(plan(p, 0, 0, 0), WHAUPFIELD_BUFFER_LENGTH);
     COMPARE_REFUSAL(rebuild(p, 0, 0, width), WHAUPFIELD_FORM);
@@ -319,29 +347,80 @@ static void compare_refusals(void)
     COMPARE_REFUSAL(whaupfield_read_back(WHAUPFIELD_PROFILE(t_5), pair, 2, data, 4, output, 4), WHAUPFIELD_AMBIGUOUS);
 }
 
-/* The header hands the library the scenario and the run whole and in its order: their bytes stand where they should in
- * a bundle, in field 02 and in the first strip's field. */
-static void compare_recording(void)
+/* A host's profile from before there was an edition. -Wextra warns of such an initializer; here it is meant. */
+#pragma GCC diagnostic push
+#pragma GCC diagnostic ignored "-Wmissing-field-initializers"
+static const struct whaupfield_profile of_five_numbers = {4, 2, 2, 2, 1};
+#pragma GCC diagnostic pop
+
+/* Its edition is 0, and every call refuses it so, with the header's lengths for 0 and for either edition. */
+static void compare_five_numbers(void)
 {
-    const struct whaupfield_profile p = {4, 2, 2, 2, 1};
+    for (int i = 0; i < CALLS; i++)
+        for (size_t edition = 0; edition < 3; edition++) {
+            struct whaupfield_profile p = of_five_numbers;
+
+            p.edition = edition;
+            compare_call(&calls[i], of_five_numbers, 0, calls[i].reading ? calls[i].reading(p) : 0,
+                         calls[i].writing(p), WHAUPFIELD_EDITION);
+        }
+}
+
+/* The members of a profile, one for each argument of a call. */
+static struct whaupfield_profile profile_of(size_t n, size_t k, size_t a, size_t t, size_t s, size_t edition)
+{
+    struct whaupfield_profile p;
+
+    p.n = n;
+    p.k = k;
+    p.a = a;
+    p.t = t;
+    p.s = s;
+    p.edition = edition;
+    return p;
+}
+
+/* WHAUPFIELD_PROFILE hands over all numbers of a profile, in the order of its members and of a call's arguments. */
+static void compare_macro(void)
+{
+    const struct whaupfield_profile given = {1, 2, 3, 4, 5, 6};
+    const struct whaupfield_profile kept = profile_of(WHAUPFIELD_PROFILE(given));
+
+    cases++;
+    if (memcmp(&given, &kept, sizeof given) != 0)
+        disagree("WHAUPFIELD_PROFILE hands over " PROFILE_FORM, kept.n, kept.k, kept.a, kept.t, kept.s, kept.edition);
+}
+
+/* The header hands the library the profile's numbers, the scenario and the run whole and in its order: their bytes
+ * stand where they should in a bundle, in fields 01 and 02 and in the first strip's field. */
+static void compare_bundle(size_t edition)
+{
+    const struct whaupfield_profile p = {6, 3, 2, 5, 0x0102, edition};
+    const uint8_t opening[2][10] = {{1, 0, 6, 6, 3, 2, 5, 1, 2, 2}, {1, 0, 7, 6, 3, 2, 5, 1, 2, 2}};
     const uint8_t recording[RECORDING] = {1, 2, 3, 4, 5, 6};
-    const size_t from[] = {FIRST_FIELD - RECORDING, FIRST_FIELD + ROW + 1};
+    const size_t from[] = {first_field(p) - RECORDING, first_field(p) + ROW + 1};
 
     write_bundle(p, 0, whaupfield_array_length(p), whaupfield_bundle_length(p));
     for (size_t i = 0; i < sizeof from / sizeof *from; i++, cases++)
         if (memcmp(bundle + from[i], recording, RECORDING) != 0)
-            disagree("write_bundle n=%zu k=%zu A=%zu t=%zu S=%zu lost=0: scenario %d, run %d do not stand at byte %zu",
+            disagree("write_bundle " PROFILE_FORM " lost=0: scenario %d, run %d do not stand at byte %zu",
                      WHAUPFIELD_PROFILE(p), SCENARIO, RUN, from[i]);
+    cases++;
+    if (memcmp(bundle, opening[edition - 1], 10) != 0)
+        disagree("write_bundle " PROFILE_FORM " lost=0: field 01 is another", WHAUPFIELD_PROFILE(p));
 }
 
-/* Each number up to the last refusal has a name and a sentence of its own, and all others those of none. */
+static int is_refusal(unsigned number)
+{
+    return number <= WHAUPFIELD_AMBIGUOUS || number == WHAUPFIELD_EDITION;
+}
+
+/* Each refusal has a name and a sentence of its own, and so has 0; all other numbers have those of none. */
 static void compare_text(unsigned number)
 {
-    const unsigned last = WHAUPFIELD_AMBIGUOUS;
-
     cases++;
     for (unsigned other = 0; other < 256; other++) {
-        int same = number == other || (number > last && other > last);
+        int same = number == other || (!is_refusal(number) && !is_refusal(other));
 
         if (same != !strcmp(whaupfield_refusal_name(number), whaupfield_refusal_name(other)) ||
             same != !strcmp(whaupfield_refusal_sentence(number), whaupfield_refusal_sentence(other)))
@@ -364,7 +443,7 @@ static void compare_survey(struct whaupfield_profile p, size_t start, size_t mos
     cases++;
     if (WHAUPFIELD_OUTCOME(answer) != outcome || WHAUPFIELD_POSITION(answer) != position ||
         WHAUPFIELD_LOOKED(answer) != looked)
-        disagree("survey n=%zu k=%zu A=%zu t=%zu S=%zu start=%zu most=%zu: outcome %u, position %llu, %llu looked at, "
+        disagree("survey " PROFILE_FORM " start=%zu most=%zu: outcome %u, position %llu, %llu looked at, "
                  "expected outcome %u, position %llu, %llu looked at",
                  WHAUPFIELD_PROFILE(p), start, most, WHAUPFIELD_OUTCOME(answer),
                  (unsigned long long)WHAUPFIELD_POSITION(answer), (unsigned long long)WHAUPFIELD_LOOKED(answer),
@@ -373,9 +452,10 @@ static void compare_survey(struct whaupfield_profile p, size_t start, size_t mos
 
 /* The parts of an answer: document 01's M5, M11 and M12, and a position of 22 bits, which is found and then surveyed on
  * its own. */
-static void compare_parts(void)
+static void compare_parts(size_t edition)
 {
-    const struct whaupfield_profile p = {4, 2, 2, 2, 1}, t_5 = {4, 2, 2, 5, 1}, large = {24, 12, 2, 2, 1};
+    const struct whaupfield_profile p = {4, 2, 2, 2, 1, edition}, t_5 = {4, 2, 2, 5, 1, edition};
+    const struct whaupfield_profile large = {24, 12, 2, 2, 1, edition};
     const size_t start = (size_t)1 << 21;
     uint64_t found = whaupfield_survey(WHAUPFIELD_PROFILE(large), start, 1000, set, large.k), value;
 
@@ -389,7 +469,8 @@ static void compare_parts(void)
     value = WHAUPFIELD_VALUE(plan(p, 0, 0, WHAUPFIELD_MAX_PLAN));
     cases++;
     if (value != 4)
-        disagree("plan n=4 k=2 A=2 t=2 S=1 lost=0: the value is %llu, expected 4", (unsigned long long)value);
+        disagree("plan " PROFILE_FORM " lost=0: the value is %llu, expected 4", WHAUPFIELD_PROFILE(p),
+                 (unsigned long long)value);
 }
 
 /* The inverse of a byte: the byte whose product with it is 1; none for 0, which is not a refusal. */
@@ -411,15 +492,17 @@ static void compare_inverses(void)
         compare_inverse(a);
 }
 
+/* The version that K6 made, as a whole and in parts. */
 static void compare_version(void)
 {
+    const char *due = "0.4.0";
     char version[40];
 
     cases++;
     snprintf(version, sizeof version, "%d.%d.%d", WHAUPFIELD_VERSION_MAJOR, WHAUPFIELD_VERSION_MINOR,
              WHAUPFIELD_VERSION_PATCH);
-    if (strcmp(version, WHAUPFIELD_VERSION) != 0)
-        disagree("WHAUPFIELD_VERSION is %s, and its parts are %s", WHAUPFIELD_VERSION, version);
+    if (strcmp(version, due) != 0 || strcmp(WHAUPFIELD_VERSION, due) != 0)
+        disagree("WHAUPFIELD_VERSION is %s, and its parts are %s, expected %s", WHAUPFIELD_VERSION, version, due);
 }
 
 int main(void)
@@ -434,10 +517,14 @@ int main(void)
     compare_strips(255);
     compare_ceilings();
     compare_any_numbers();
-    compare_refusals();
-    compare_recording();
+    for (size_t edition = 1; edition < 3; edition++) {
+        compare_refusals(edition);
+        compare_bundle(edition);
+        compare_parts(edition);
+    }
+    compare_five_numbers();
+    compare_macro();
     compare_texts();
-    compare_parts();
     compare_inverses();
     compare_version();
     printf("compare: header: %zu profiles, all %zu cases agree\n", profiles, cases);

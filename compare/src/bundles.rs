@@ -4,13 +4,14 @@ use crate::calls::{
     every_lost_node, every_shape, random_profile, random_recording, replace_number, small_and_refused_numbers,
     small_like, Call, Tally,
 };
-use crate::code::{self, Profile, Refusal};
+use crate::code::{self, Profile, Refusal, EDITIONS};
 use crate::download::{Recording, Wanted};
 use crate::library::{self, Answer, Lent};
 use crate::random::Random;
 use crate::{hex, Count, Outcome};
 
-/// "The whole bundle of M4, node 0, scenario 7". K2: "document 01's sample bundle, with run 0, has 67 bytes."
+/// "The whole bundle of M4, node 0, scenario 7", which is of edition 1. K2: "document 01's sample bundle, with run 0,
+/// has 67 bytes."
 pub const SAMPLE: [u8; 67] = [
     0x01, 0x00, 0x06, 0x04, 0x02, 0x02, 0x02, 0x00, 0x01, //
     0x02, 0x00, 0x07, 0x00, 0x00, 0x00, 0x00, 0x07, 0x00, 0x00, //
@@ -30,9 +31,19 @@ pub const OLD_SAMPLE: [u8; 57] = [
     0x03, 0x00, 0x07, 0x02, 0x01, 0x00, 0x00, 0x00, 0x07, 0x00,
 ];
 
-/// What both bundles are cut for, the older one without the run.
+/// The same bundle in edition 2. K6: "Field 01 gets a last byte, edition 2, and length 7"; the plan is the same.
+pub const SAMPLE_IN_EDITION_2: [u8; 68] = [
+    0x01, 0x00, 0x07, 0x04, 0x02, 0x02, 0x02, 0x00, 0x01, 0x02, //
+    0x02, 0x00, 0x07, 0x00, 0x00, 0x00, 0x00, 0x07, 0x00, 0x00, //
+    0x03, 0x00, 0x09, 0x01, 0x00, 0x00, 0x00, 0x00, 0x07, 0x00, 0x00, 0x02, //
+    0x03, 0x00, 0x09, 0x02, 0x00, 0x00, 0x00, 0x00, 0x07, 0x00, 0x00, 0x07, //
+    0x03, 0x00, 0x09, 0x03, 0x00, 0x00, 0x00, 0x00, 0x07, 0x00, 0x00, 0x0C, //
+    0x03, 0x00, 0x09, 0x02, 0x01, 0x00, 0x00, 0x00, 0x07, 0x00, 0x00, 0x00,
+];
+
+/// What the bundle of 67 bytes and that of 57 are cut for, the older one without the run.
 pub const SAMPLE_WANTED: Wanted = Wanted {
-    profile: Profile { n: 4, k: 2, rows: 2, t: 2, s: 1 },
+    profile: Profile { n: 4, k: 2, rows: 2, t: 2, s: 1, edition: 1 },
     lost: 0,
     recording: Recording { scenario: 7, run: 0 },
 };
@@ -54,12 +65,11 @@ impl Case {
     }
 
     fn disagreement(&self, what: String) -> String {
-        let Wanted { profile: Profile { n, k, rows, t, s }, lost, recording: Recording { scenario, run } } =
-            self.wanted;
+        let Wanted { profile, lost, recording: Recording { scenario, run } } = self.wanted;
         let (array_length, bundle_length) = (self.array.len(), self.bundle.len());
         let (array, bundle) = (hex(&self.array), hex(&self.bundle));
         format!(
-            "write_bundle n={n} k={k} A={rows} t={t} S={s} lost={lost} scenario={scenario} run={run} \
+            "write_bundle {profile} lost={lost} scenario={scenario} run={run} \
              array_len={array_length} array={array} bundle_len={bundle_length} bundle={bundle}: {what}"
         )
     }
@@ -99,11 +109,14 @@ impl Call for Case {
     }
 }
 
-/// Document 01's whole bundle with run 0.
+/// Document 01's whole bundle with run 0, in either edition.
 pub fn samples(random: &mut Random) -> Outcome {
-    let case = Case { wanted: SAMPLE_WANTED, array: SAMPLE_ARRAY.to_vec(), bundle: vec![0xEE; SAMPLE.len()] };
-    case.call(Ok(&SAMPLE), random)?;
-    Ok(vec![Count::of("samples of bundles", 1)])
+    for (edition, expected) in [(1, &SAMPLE[..]), (2, &SAMPLE_IN_EDITION_2)] {
+        let wanted = SAMPLE_WANTED.in_edition(edition);
+        let case = Case { wanted, array: SAMPLE_ARRAY.to_vec(), bundle: vec![0xEE; expected.len()] };
+        case.call(Ok(expected), random)?;
+    }
+    Ok(vec![Count::of("samples of bundles", 2)])
 }
 
 /// Whole calls, each counted as accepted or refused.
@@ -114,10 +127,10 @@ pub fn bundles(random: &mut Random) -> Outcome {
     long_strips(&mut tally, random)?;
     every_number(&mut tally, random)?;
     mixed_calls(&mut tally, random)?;
-    tally.counts("bundles written", "bundles refused", &[1, 2, 3, 4, 5])
+    tally.counts("bundles written", "bundles refused", &[1, 2, 3, 13, 4, 5])
 }
 
-/// Each accepted (n, k, A) and each lost node, then the first nodes past the last, with all lengths.
+/// Each accepted (n, k, A) and each lost node in either edition, then the first nodes past the last, with all lengths.
 fn every_bundle(tally: &mut Tally, random: &mut Random) -> Result<(), String> {
     let mut all = every_lost_node(random);
     for wanted in every_shape(1..=8, random) {
@@ -130,10 +143,11 @@ fn every_bundle(tally: &mut Tally, random: &mut Random) -> Result<(), String> {
     Ok(())
 }
 
-/// Each run of the sample's scenario.
+/// Each run of the sample's scenario, in either edition.
 fn every_run(tally: &mut Tally, random: &mut Random) -> Result<(), String> {
     for run in 0..=u16::MAX {
-        tally.compare(Case::new(SAMPLE_WANTED.with_run(run), SAMPLE_ARRAY.len(), SAMPLE.len(), random), random)?;
+        let wanted = SAMPLE_WANTED.with_run(run).in_edition(random.one_of(&EDITIONS));
+        tally.compare(Case::new(wanted, SAMPLE_ARRAY.len(), wanted.bundle_length(), random), random)?;
     }
     Ok(())
 }
@@ -150,8 +164,8 @@ fn long_strips(tally: &mut Tally, random: &mut Random) -> Result<(), String> {
     Ok(())
 }
 
-/// The lengths to lend with these numbers: those that fit, or fit what a narrower type leaves, and those one off,
-/// exchanged or 0, and that of a bundle without a run.
+/// The lengths to lend with these numbers: those that fit, or fit what a narrower type leaves, and those one off (of
+/// which one is that of a bundle in the other edition), exchanged or 0, and that of a bundle without a run.
 fn lengths_for(wanted: &Wanted) -> [(usize, usize); 12] {
     let small = small_like(wanted);
     let (array, bundle) = (small.profile.array_length(), small.bundle_length());
@@ -179,7 +193,7 @@ fn every_length(wanted: Wanted, tally: &mut Tally, random: &mut Random) -> Resul
     Ok(())
 }
 
-/// All small numbers, and every mixture of refusals 1, 2, 3, 4 and 5, also of none.
+/// All small numbers, and every mixture of refusals 1, 2, 3, 13, 4 and 5, also of none.
 fn every_number(tally: &mut Tally, random: &mut Random) -> Result<(), String> {
     for (profile, lost) in small_and_refused_numbers(random) {
         every_length(Wanted { profile, lost, recording: random_recording(random) }, tally, random)?;

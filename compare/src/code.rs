@@ -1,4 +1,5 @@
-//! Document 01's profile, row code, coupling, encoding and rebuild plan, each written down from its sentence there.
+//! Document 01's profile, row code, coupling, encoding and rebuild plan, each written down from its sentence there, and
+//! the edition that document 02's K6 gives a profile.
 
 use crate::field::{inverse, product, sum};
 
@@ -6,13 +7,14 @@ pub const MOST_NODES: usize = 24;
 pub const MOST_ROWS: usize = 4;
 pub const MOST_STRIP_BYTES: usize = 512;
 
-/// The refusals, 8 and 9 with the index of the first such strip. OutOfRange is "lost node not below n; node list not k
-/// strictly rising numbers below n; survey start above the number of sets".
+/// The refusals in the order in which they are tried, 8 and 9 with the index of the first such strip. OutOfRange is
+/// "lost node not below n; node list not k strictly rising numbers below n; survey start above the number of sets".
 #[derive(Clone, Copy, PartialEq, Debug)]
 pub enum Refusal {
     NodesOrRows,
     Constant,
     StripLength,
+    Edition,
     OutOfRange,
     BufferLength,
     BundleForm,
@@ -28,6 +30,7 @@ impl Refusal {
             Refusal::NodesOrRows => 1,
             Refusal::Constant => 2,
             Refusal::StripLength => 3,
+            Refusal::Edition => 13,
             Refusal::OutOfRange => 4,
             Refusal::BufferLength => 5,
             Refusal::BundleForm => 6,
@@ -55,7 +58,18 @@ pub struct Profile {
     pub rows: usize,
     pub t: usize,
     pub s: usize,
+    pub edition: usize,
 }
+
+impl std::fmt::Display for Profile {
+    fn fmt(&self, to: &mut std::fmt::Formatter) -> std::fmt::Result {
+        let Profile { n, k, rows, t, s, edition } = self;
+        write!(to, "n={n} k={k} A={rows} t={t} S={s} edition={edition}")
+    }
+}
+
+/// K6: "an edition other than 1 or 2 is 13".
+pub const EDITIONS: [usize; 2] = [1, 2];
 
 /// A place in an array: node first, then row.
 #[derive(Clone, Copy, PartialEq, Debug)]
@@ -82,7 +96,7 @@ pub fn all_accepted() -> Vec<(usize, usize, usize)> {
 }
 
 impl Profile {
-    /// Refusals 1, 2 and 3, the lowest number first.
+    /// Refusals 1, 2, 3 and 13, which K6 has "tried after 3".
     pub fn refusal(&self) -> Option<Refusal> {
         if !nodes_and_rows_accepted(self.n, self.k, self.rows) {
             Some(Refusal::NodesOrRows)
@@ -90,9 +104,16 @@ impl Profile {
             Some(Refusal::Constant)
         } else if self.s == 0 || self.s > MOST_STRIP_BYTES {
             Some(Refusal::StripLength)
+        } else if !EDITIONS.contains(&self.edition) {
+            Some(Refusal::Edition)
         } else {
             None
         }
+    }
+
+    /// The same in this edition.
+    pub fn in_edition(&self, edition: usize) -> Profile {
+        Profile { edition, ..*self }
     }
 
     /// kAS. This and all that follow are for numbers that are accepted, or small.
@@ -141,8 +162,17 @@ impl Profile {
         (0..self.n).flat_map(|node| (0..self.rows).map(move |row| Place { node, row })).collect()
     }
 
+    /// The nodes in the order in which steps 2 and 3 each look for their candidates. In edition 1 they are "rising".
+    /// K6: "Edition 2 walks the candidates of steps 2 and 3 from the node after the lost one, rising and wrapping past
+    /// n-1 to 0, each step on its own".
+    fn walk(&self, lost: usize) -> impl Iterator<Item = usize> {
+        let first = if self.edition == 2 { lost + 1 } else { 0 };
+        (first..self.n).chain(0..first)
+    }
+
     /// The three steps of the plan for a lost node below n: row c of the nodes given, c the lost node's local
-    /// column, with the partner beside it in the third.
+    /// column, with the partner beside it in the third. K6: "Step 1 stays", and "step 2 is still finished before step 3
+    /// begins".
     pub fn planned_places(&self, lost: usize) -> Vec<Place> {
         let column = lost % self.rows;
         let in_row = |node: usize| Place { node, row: column };
@@ -150,8 +180,8 @@ impl Profile {
         let in_own_column = |node: usize| node % self.rows == column;
         let own: Vec<usize> = (0..self.n).filter(|&node| in_own_group(node) && node != lost).collect();
         let singles: Vec<usize> =
-            (0..self.n).filter(|&node| !in_own_group(node) && in_own_column(node)).take(self.k).collect();
-        let pairs = (0..self.n).filter(|&node| !in_own_group(node) && !in_own_column(node));
+            self.walk(lost).filter(|&node| !in_own_group(node) && in_own_column(node)).take(self.k).collect();
+        let pairs = self.walk(lost).filter(|&node| !in_own_group(node) && !in_own_column(node));
 
         let missing = self.k - singles.len();
         let mut places: Vec<Place> = own.into_iter().chain(singles).map(in_row).collect();
@@ -252,7 +282,7 @@ pub fn decouple(profile: &Profile, stored: &[u8]) -> Vec<u8> {
     base
 }
 
-/// What encoding answers: the array that the data give, or the refusal with the lowest number that applies.
+/// What encoding answers: the array that the data give, or the first refusal that applies.
 pub fn encode(profile: &Profile, data: &[u8], array_length: usize) -> Result<Vec<u8>, Refusal> {
     if let Some(refusal) = profile.refusal() {
         return Err(refusal);
@@ -268,7 +298,7 @@ pub fn plan_bytes(places: &[Place]) -> Vec<u8> {
     places.iter().flat_map(|place| [place.node as u8, place.row as u8]).collect()
 }
 
-/// What planning answers: the places of the plan, or the refusal with the lowest number that applies.
+/// What planning answers: the places of the plan, or the first refusal that applies.
 pub fn plan(profile: &Profile, lost: usize, places_length: usize) -> Result<Vec<Place>, Refusal> {
     if let Some(refusal) = profile.refusal() {
         return Err(refusal);

@@ -1,7 +1,7 @@
-//! Document 01's download bundle with the run that document 02's K2 adds: what writing one answers, and which bundles
-//! a rebuild refuses.
+//! Document 01's download bundle with the run that document 02's K2 adds and the edition that K6 adds: what writing one
+//! answers, and which bundles a rebuild refuses.
 
-use crate::code::{Place, Profile, Refusal};
+use crate::code::{Place, Profile, Refusal, EDITIONS};
 
 /// K2: "A recording is a scenario and a run, two bytes more, after the scenario number."
 #[derive(Clone, Copy, PartialEq, Debug, Default)]
@@ -33,7 +33,7 @@ pub struct Field {
 }
 
 impl Wanted {
-    /// Refusals 1 to 4, the lowest number first.
+    /// Refusals 1, 2, 3, 13 and 4, in this order.
     fn refusal(&self) -> Option<Refusal> {
         self.profile.refusal().or((self.lost >= self.profile.n).then_some(Refusal::OutOfRange))
     }
@@ -43,10 +43,26 @@ impl Wanted {
         Wanted { recording: Recording { run, ..self.recording }, ..*self }
     }
 
-    /// K2: "a bundle 19 + P(11+S)", P the number of places. This and all that follow are for numbers that are
-    /// accepted, or small.
+    /// The same in this edition.
+    pub fn in_edition(&self, edition: usize) -> Wanted {
+        Wanted { profile: self.profile.in_edition(edition), ..*self }
+    }
+
+    /// The same in each edition.
+    pub fn in_either_edition(&self) -> [Wanted; 2] {
+        EDITIONS.map(|edition| self.in_edition(edition))
+    }
+
+    /// The same in the other edition than this accepted one.
+    pub fn in_other_edition(&self) -> Wanted {
+        self.in_edition(if self.profile.edition == 1 { 2 } else { 1 })
+    }
+
+    /// K2: "a bundle 19 + P(11+S)", P the number of places. K6: "Field 01 gets a last byte, edition 2", so that it is
+    /// 20 + P(11+S) there. This and all that follow are for numbers that are accepted, or small.
     pub fn bundle_length(&self) -> usize {
-        self.strip_field_start(self.profile.number_of_places())
+        let head = if self.profile.edition == 2 { 20 } else { 19 };
+        head + self.profile.number_of_places() * (11 + self.profile.s)
     }
 
     /// Document 01's length of a bundle without a run: "17 + P(9+S), P the number of places."
@@ -54,9 +70,15 @@ impl Wanted {
         17 + self.profile.number_of_places() * (9 + self.profile.s)
     }
 
-    /// Where the field 03 of a strip starts, its index counted from 0.
+    /// Where field 02 starts: tag, length and content of field 01 are before it.
+    pub fn lost_field_start(&self) -> usize {
+        3 + self.profile_field().content.len()
+    }
+
+    /// Where the field 03 of a strip starts, its index counted from 0. Tag, length and content of field 02 are ten
+    /// bytes.
     pub fn strip_field_start(&self, index: usize) -> usize {
-        19 + index * self.strip_field_length()
+        self.lost_field_start() + 10 + index * self.strip_field_length()
     }
 
     /// With the tag and the length.
@@ -68,10 +90,15 @@ impl Wanted {
         self.profile.planned_places(self.lost)
     }
 
-    /// "01, length 6: n, k, A, t, S in two bytes."
+    /// "01, length 6: n, k, A, t, S in two bytes." K6: "Field 01 gets a last byte, edition 2, and length 7; a field of
+    /// length 6 is edition 1."
     fn profile_field(&self) -> Field {
-        let Profile { n, k, rows, t, s } = self.profile;
-        Field { tag: 1, content: vec![n as u8, k as u8, rows as u8, t as u8, (s >> 8) as u8, s as u8] }
+        let Profile { n, k, rows, t, s, edition } = self.profile;
+        let mut content = vec![n as u8, k as u8, rows as u8, t as u8, (s >> 8) as u8, s as u8];
+        if edition == 2 {
+            content.push(2);
+        }
+        Field { tag: 1, content }
     }
 
     /// "02 ..: lost node, scenario number in four bytes", and K2's run: "Field 02 has length 7".
@@ -95,11 +122,12 @@ impl Wanted {
         joined(&self.fields(strips))
     }
 
-    /// A bundle as it was before K2, without a run. Document 01: "02, length 5: lost node, scenario number in four
-    /// bytes." "03, length 6+S, once a planned place in plan order: node, row, scenario number, strip."
+    /// A bundle as it was before K2, without a run, and so in edition 1. Document 01: "02, length 5: lost node,
+    /// scenario number in four bytes." "03, length 6+S, once a planned place in plan order: node, row, scenario number,
+    /// strip."
     pub fn old_bundle(&self, strips: &[Vec<u8>]) -> Vec<u8> {
         // the run taken out of each content: it stands after the scenario number
-        let mut fields = self.fields(strips);
+        let mut fields = self.in_edition(1).fields(strips);
         fields[1].content.drain(5..7);
         for field in &mut fields[2..] {
             field.content.drain(6..8);
@@ -114,7 +142,7 @@ impl Wanted {
         self.bundle(&self.places().into_iter().map(strip).collect::<Vec<_>>())
     }
 
-    /// What writing a bundle answers: the bundle, or the refusal with the lowest number that applies.
+    /// What writing a bundle answers: the bundle, or the first refusal that applies.
     pub fn write_bundle(&self, array: &[u8], bundle_length: usize) -> Result<Vec<u8>, Refusal> {
         if let Some(refusal) = self.refusal() {
             return Err(refusal);
@@ -125,7 +153,8 @@ impl Wanted {
         Ok(self.cut(array))
     }
 
-    /// What a rebuild rebuilds from: the strips in plan order, or the refusal with the lowest number that applies.
+    /// What a rebuild rebuilds from: the strips in plan order, or the first refusal that applies. "also where a stale
+    /// strip stands before a misplaced one" 8 goes before 9.
     pub fn strips_for_rebuild(&self, bundle: &[u8], column_length: usize) -> Result<Vec<Vec<u8>>, Refusal> {
         if let Some(refusal) = self.refusal() {
             return Err(refusal);
@@ -134,7 +163,7 @@ impl Wanted {
             return Err(Refusal::BufferLength);
         }
         let fields = self.formed_fields(bundle).ok_or(Refusal::BundleForm)?;
-        // K2: "7 and 9 compare both numbers", the scenario and the run.
+        // K2: "7 and 9 compare both numbers", the scenario and the run. K6: "6 and 7 read the edition too".
         if fields[0].content != self.profile_field().content || fields[1].content != self.lost_field().content {
             return Err(Refusal::BundleHead);
         }
@@ -157,7 +186,7 @@ impl Wanted {
     /// as K2 says, "old bundles get 6".
     fn formed_fields(&self, bundle: &[u8]) -> Option<Vec<Field>> {
         let fields = parted(bundle)?;
-        let mut wanted = vec![(1, 6), (2, 7)];
+        let mut wanted = vec![(1, if self.profile.edition == 2 { 7 } else { 6 }), (2, 7)];
         wanted.resize(2 + self.profile.number_of_places(), (3, 8 + self.profile.s));
         let given: Vec<(u8, usize)> = fields.iter().map(|field| (field.tag, field.content.len())).collect();
         (bundle.len() == self.bundle_length() && given == wanted).then_some(fields)

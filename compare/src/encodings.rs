@@ -1,7 +1,7 @@
 //! The kinds about encoding: samples, row codes, accepted and refused calls.
 
-use crate::calls::{far_numbers, refused_nodes_and_rows, Call, Tally, HUGE};
-use crate::code::{self, Profile, Refusal};
+use crate::calls::{far_numbers, profiles_in_every_order, random_profile, Call, Tally, HUGE};
+use crate::code::{self, Profile, Refusal, EDITIONS};
 use crate::library::{self, Answer, Lent};
 use crate::random::Random;
 use crate::{hex, Count, Outcome};
@@ -29,13 +29,9 @@ impl Case {
     }
 
     fn disagreement(&self, what: String) -> String {
-        let Profile { n, k, rows, t, s } = self.profile;
-        let (data_length, array_length) = (self.data.len(), self.array.len());
+        let (profile, data_length, array_length) = (self.profile, self.data.len(), self.array.len());
         let (data, array) = (hex(&self.data), hex(&self.array));
-        format!(
-            "encode n={n} k={k} A={rows} t={t} S={s} data_len={data_length} data={data} array_len={array_length} \
-             array={array}: {what}"
-        )
+        format!("encode {profile} data_len={data_length} data={data} array_len={array_length} array={array}: {what}")
     }
 
     /// Calls the library; compares the answer and every byte that must not change with `expected`. Gives the
@@ -92,19 +88,21 @@ impl Call for Case {
     }
 }
 
-/// Document 01's M4 and the encoding of M9, as they are printed there.
+/// Document 01's M4 and the encoding of M9, as they are printed there, in either edition.
 pub fn samples(random: &mut Random) -> Outcome {
-    let profile = Profile { n: 4, k: 2, rows: 2, t: 2, s: 1 };
-    let m4 = Case { profile, data: vec![1, 0, 2, 4], array: vec![0xEE; 8] };
-    let given = m4.call(None, random)?;
-    m4.same_array(&given, &[0x01, 0x04, 0x02, 0x04, 0x07, 0x00, 0x0C, 0x0C])?;
+    for edition in EDITIONS {
+        let profile = Profile { n: 4, k: 2, rows: 2, t: 2, s: 1, edition };
+        let m4 = Case { profile, data: vec![1, 0, 2, 4], array: vec![0xEE; 8] };
+        let given = m4.call(None, random)?;
+        m4.same_array(&given, &[0x01, 0x04, 0x02, 0x04, 0x07, 0x00, 0x0C, 0x0C])?;
 
-    let m9 = Case { profile: Profile { t: 5, ..profile }, data: vec![0, 5, 1, 6], array: vec![0xEE; 8] };
-    let given = m9.call(None, random)?;
-    if given[0..2] != [0, 0] || given[6..8] != [0, 0] {
-        return Err(m9.disagreement(format!("nodes 0 and 3 are not zero in {}", hex(&given))));
+        let m9 = Case { profile: Profile { t: 5, ..profile }, data: vec![0, 5, 1, 6], array: vec![0xEE; 8] };
+        let given = m9.call(None, random)?;
+        if given[0..2] != [0, 0] || given[6..8] != [0, 0] {
+            return Err(m9.disagreement(format!("nodes 0 and 3 are not zero in {}", hex(&given))));
+        }
     }
-    Ok(vec![Count::of("samples of encoding", 2)])
+    Ok(vec![Count::of("samples of encoding", 4)])
 }
 
 /// The library's arrays with the coupling taken off: the data are the first k nodes' base symbols, and each
@@ -113,7 +111,7 @@ pub fn row_codes(random: &mut Random) -> Outcome {
     let mut cases = 0;
     for (n, k, rows) in code::all_accepted() {
         for s in [1, random.between(2, 24)] {
-            let profile = Profile { n, k, rows, t: random.between(2, 255), s };
+            let profile = Profile { s, ..random_profile(n, k, rows, random) };
             let case = Case::fitting(profile, random);
             let stored = case.call(None, random)?;
             let base = code::decouple(&profile, &stored);
@@ -171,13 +169,13 @@ pub fn encodings(random: &mut Random) -> Outcome {
     refused_in_every_order(&mut tally, random)?;
     one_number_far(&mut tally, random)?;
     mixed_calls(&mut tally, random)?;
-    tally.counts("encodings accepted", "encodings refused", &[1, 2, 3, 5])
+    tally.counts("encodings accepted", "encodings refused", &[1, 2, 3, 13, 5])
 }
 
 /// Each accepted (n, k, A) with data that are zero but for one byte, at each position.
 fn single_bytes(tally: &mut Tally, random: &mut Random) -> Result<(), String> {
     for (n, k, rows) in code::all_accepted() {
-        let profile = Profile { n, k, rows, t: random.between(2, 255), s: 1 };
+        let profile = Profile { s: 1, ..random_profile(n, k, rows, random) };
         for at in 0..profile.data_length() {
             let mut case = Case::fitting(profile, random);
             case.data.fill(0);
@@ -188,32 +186,35 @@ fn single_bytes(tally: &mut Tally, random: &mut Random) -> Result<(), String> {
     Ok(())
 }
 
-/// Each accepted (n, k, A) with random data, each of the strip lengths and two others; then with all lengths of the buffers.
+/// Each accepted (n, k, A) with random data, each of the strip lengths and two others, in any edition; then with all
+/// lengths of the buffers.
 fn every_profile(tally: &mut Tally, random: &mut Random) -> Result<(), String> {
     for (n, k, rows) in code::all_accepted() {
         let others = [random.between(1, 512), random.between(1, 512)];
         for &s in STRIP_LENGTHS.iter().chain(&others) {
-            let t = random.between(2, 255);
-            let case = Case::fitting(Profile { n, k, rows, t, s }, random);
+            let case = Case::fitting(Profile { s, ..random_profile(n, k, rows, random) }, random);
             tally.compare(case, random)?;
         }
-        let (t, s) = (random.between(2, 255), random.between(1, 4));
-        every_length(&Profile { n, k, rows, t, s }, tally, random)?;
+        let profile = Profile { s: random.between(1, 4), ..random_profile(n, k, rows, random) };
+        every_length(&profile, tally, random)?;
     }
     Ok(())
 }
 
-/// All small n, k and A; then all small t, and all small S, of accepted n, k and A. The lengths fit.
+/// All small n, k and A; then all small t, all small S and all small editions, of accepted n, k and A. The lengths fit.
 fn every_small_number(tally: &mut Tally, random: &mut Random) -> Result<(), String> {
     let mut profiles = Vec::new();
     for n in 0..=30 {
         for k in 0..=30 {
-            profiles.extend((0..=6).map(|rows| Profile { n, k, rows, t: random.between(2, 255), s: 1 }));
+            profiles.extend((0..=6).map(|rows| Profile { s: 1, ..random_profile(n, k, rows, random) }));
         }
     }
     for (n, k, rows) in [(4, 2, 2), (6, 3, 3), (8, 4, 4)] {
-        profiles.extend((0..=600).map(|t| Profile { n, k, rows, t, s: 2 }));
-        profiles.extend((0..=1100).map(|s| Profile { n, k, rows, t: 3, s }));
+        for edition in EDITIONS {
+            profiles.extend((0..=600).map(|t| Profile { n, k, rows, t, s: 2, edition }));
+            profiles.extend((0..=1100).map(|s| Profile { n, k, rows, t: 3, s, edition }));
+        }
+        profiles.extend((0..=600).map(|edition| Profile { n, k, rows, t: 3, s: 2, edition }));
     }
     for profile in profiles {
         let case = Case::fitting(profile, random);
@@ -222,23 +223,17 @@ fn every_small_number(tally: &mut Tally, random: &mut Random) -> Result<(), Stri
     Ok(())
 }
 
-/// Every mixture of refusals 1, 2, 3 and 5, also of none, with each way to come to each.
+/// Every mixture of refusals 1, 2, 3, 13 and 5, also of none, with each way to come to each.
 fn refused_in_every_order(tally: &mut Tally, random: &mut Random) -> Result<(), String> {
-    let mut shapes = vec![(4, 2, 2), (4, 1, 2), (6, 3, 3), (8, 4, 4), (24, 20, 4)];
-    shapes.extend(refused_nodes_and_rows());
     let mut constants = vec![2, 255, 0, 1, 256, 257, 258];
     constants.extend(HUGE);
     let mut strips = vec![1, 2, 0, 513, 514, 1024, 65537];
     strips.extend(HUGE);
-    for &(n, k, rows) in &shapes {
-        for &t in &constants {
-            for &s in &strips {
-                let profile = Profile { n, k, rows, t, s };
-                every_length(&profile, tally, random)?;
-            }
-        }
+    let mut profiles = profiles_in_every_order(&constants, &strips, random);
+    for edition in [1, 2, 3] {
+        profiles.extend([24, 23].map(|n| Profile { n, k: 20, rows: 4, t: 2, s: 512, edition }));
     }
-    for profile in [(24, 20, 4), (23, 20, 4)].map(|(n, k, rows)| Profile { n, k, rows, t: 2, s: 512 }) {
+    for profile in profiles {
         every_length(&profile, tally, random)?;
     }
     Ok(())
@@ -295,18 +290,20 @@ fn mixed_calls(tally: &mut Tally, random: &mut Random) -> Result<(), String> {
         let (mut n, mut k, mut rows) = random.one_of(&accepted);
         let mut t = random.between(2, 255);
         let mut s = random.between(1, 9);
-        match random.between(0, 9) {
+        let mut edition = random.one_of(&EDITIONS);
+        match random.between(0, 10) {
             0 => n = random.between(0, 30),
             1 => k = random.between(0, 30),
             2 => rows = random.between(0, 6),
             3 => t = random.one_of(&[0, 1, 2, 255, 256]),
             4 => s = random.one_of(&[0, 1, 512, 513]),
+            5 => edition = random.one_of(&[0, 1, 2, 3, 257, 258]),
             _ => {}
         }
         let (data, array) = (k * rows * s, n * rows * s);
         let data_length = random.one_of(&[data, data, data, data + 1, data.saturating_sub(1)]);
         let array_length = random.one_of(&[array, array, array, array + 1, array.saturating_sub(1)]);
-        let case = Case::new(Profile { n, k, rows, t, s }, data_length, array_length, random);
+        let case = Case::new(Profile { n, k, rows, t, s, edition }, data_length, array_length, random);
         tally.compare(case, random)?;
     }
     Ok(())

@@ -75,8 +75,8 @@ fn is_node_list(profile: &Profile, nodes: &[u8]) -> bool {
     nodes.len() == profile.k && rising && nodes.iter().all(|&node| usize::from(node) < profile.n)
 }
 
-/// What reading back answers: the data, or the refusal with the lowest number that applies. The data are solved for;
-/// where the rank is full, any columns are those of some data.
+/// What reading back answers: the data, or the first refusal that applies. The data are solved for; where the rank is
+/// full, any columns are those of some data.
 pub fn read_back(
     profile: &Profile,
     nodes: &[u8],
@@ -164,7 +164,7 @@ impl Sets {
         *self.known.entry(position).or_insert_with(|| self.generator.fails(&set))
     }
 
-    /// What a survey answers, or the refusal with the lowest number that applies.
+    /// What a survey answers, or the first refusal that applies.
     pub fn survey(
         &mut self,
         profile: &Profile,

@@ -12,6 +12,7 @@ extern "C" {
         a: usize,
         t: usize,
         s: usize,
+        edition: usize,
         data: *const u8,
         data_len: usize,
         array: *mut u8,
@@ -23,6 +24,7 @@ extern "C" {
         a: usize,
         t: usize,
         s: usize,
+        edition: usize,
         lost: usize,
         places: *mut u8,
         places_len: usize,
@@ -33,6 +35,7 @@ extern "C" {
         a: usize,
         t: usize,
         s: usize,
+        edition: usize,
         lost: usize,
         scenario: u32,
         run: u16,
@@ -47,6 +50,7 @@ extern "C" {
         a: usize,
         t: usize,
         s: usize,
+        edition: usize,
         lost: usize,
         scenario: u32,
         run: u16,
@@ -61,6 +65,7 @@ extern "C" {
         a: usize,
         t: usize,
         s: usize,
+        edition: usize,
         nodes: *const u8,
         nodes_len: usize,
         columns: *const u8,
@@ -74,6 +79,7 @@ extern "C" {
         a: usize,
         t: usize,
         s: usize,
+        edition: usize,
         start: usize,
         most: usize,
         set: *mut u8,
@@ -201,52 +207,57 @@ impl Lent {
 }
 
 pub fn encode(profile: &Profile, data: &mut Lent, array: &mut Lent) -> Answer {
-    let Profile { n, k, rows, t, s } = *profile;
+    let Profile { n, k, rows, t, s, edition } = *profile;
     // Both pointers are to live bytes of the lengths given, in allocations apart.
-    let word =
-        unsafe { whaupfield_encode(n, k, rows, t, s, data.pointer(), data.length, array.pointer(), array.length) };
+    let word = unsafe {
+        whaupfield_encode(n, k, rows, t, s, edition, data.pointer(), data.length, array.pointer(), array.length)
+    };
     Answer::from_word(word)
 }
 
 pub fn plan(profile: &Profile, lost: usize, places: &mut Lent) -> Answer {
-    let Profile { n, k, rows, t, s } = *profile;
+    let Profile { n, k, rows, t, s, edition } = *profile;
     // The pointer is to live bytes of the length given.
-    let word = unsafe { whaupfield_plan(n, k, rows, t, s, lost, places.pointer(), places.length) };
+    let word = unsafe { whaupfield_plan(n, k, rows, t, s, edition, lost, places.pointer(), places.length) };
     Answer::from_word(word)
 }
 
 pub fn write_bundle(wanted: &Wanted, array: &mut Lent, bundle: &mut Lent) -> Answer {
-    let Wanted { profile: Profile { n, k, rows, t, s }, lost, recording: Recording { scenario, run } } = *wanted;
+    let Wanted { profile: Profile { n, k, rows, t, s, edition }, lost, recording: Recording { scenario, run } } =
+        *wanted;
     let (from, to) = (array.pointer(), bundle.pointer());
     // Both pointers are to live bytes of the lengths given, in allocations apart.
     let word = unsafe {
-        whaupfield_write_bundle(n, k, rows, t, s, lost, scenario, run, from, array.length, to, bundle.length)
+        whaupfield_write_bundle(n, k, rows, t, s, edition, lost, scenario, run, from, array.length, to, bundle.length)
     };
     Answer::from_word(word)
 }
 
 pub fn rebuild(wanted: &Wanted, bundle: &mut Lent, column: &mut Lent) -> Answer {
-    let Wanted { profile: Profile { n, k, rows, t, s }, lost, recording: Recording { scenario, run } } = *wanted;
+    let Wanted { profile: Profile { n, k, rows, t, s, edition }, lost, recording: Recording { scenario, run } } =
+        *wanted;
     let (from, to) = (bundle.pointer(), column.pointer());
     // Both pointers are to live bytes of the lengths given, in allocations apart.
-    let word =
-        unsafe { whaupfield_rebuild(n, k, rows, t, s, lost, scenario, run, from, bundle.length, to, column.length) };
+    let word = unsafe {
+        whaupfield_rebuild(n, k, rows, t, s, edition, lost, scenario, run, from, bundle.length, to, column.length)
+    };
     Answer::from_word(word)
 }
 
 pub fn read_back(profile: &Profile, nodes: &mut Lent, columns: &mut Lent, data: &mut Lent) -> Answer {
-    let Profile { n, k, rows, t, s } = *profile;
+    let Profile { n, k, rows, t, s, edition } = *profile;
     let (list, from, to) = (nodes.pointer(), columns.pointer(), data.pointer());
     // All three pointers are to live bytes of the lengths given, in allocations apart.
-    let word =
-        unsafe { whaupfield_read_back(n, k, rows, t, s, list, nodes.length, from, columns.length, to, data.length) };
+    let word = unsafe {
+        whaupfield_read_back(n, k, rows, t, s, edition, list, nodes.length, from, columns.length, to, data.length)
+    };
     Answer::from_word(word)
 }
 
 pub fn survey(profile: &Profile, start: usize, most: usize, set: &mut Lent) -> SurveyAnswer {
-    let Profile { n, k, rows, t, s } = *profile;
+    let Profile { n, k, rows, t, s, edition } = *profile;
     // The pointer is to live bytes of the length given.
-    let word = unsafe { whaupfield_survey(n, k, rows, t, s, start, most, set.pointer(), set.length) };
+    let word = unsafe { whaupfield_survey(n, k, rows, t, s, edition, start, most, set.pointer(), set.length) };
     SurveyAnswer::from_word(word)
 }
 

@@ -8,6 +8,7 @@ mod bundles;
 mod calls;
 mod code;
 mod download;
+mod editions;
 mod encodings;
 mod field;
 mod generator;
@@ -49,7 +50,7 @@ impl std::fmt::Display for Count {
 pub type Outcome = Result<Vec<Count>, String>;
 
 /// Each kind has a generator of its own, so that a new kind changes no other's cases; so new ones go last.
-const KINDS: [fn(&mut Random) -> Outcome; 21] = [
+const KINDS: [fn(&mut Random) -> Outcome; 24] = [
     arithmetic::products,
     arithmetic::inverses,
     arithmetic::samples,
@@ -71,6 +72,9 @@ const KINDS: [fn(&mut Random) -> Outcome; 21] = [
     surveys::surveys,
     recordings::two_runs,
     recordings::old_bundles,
+    editions::samples,
+    editions::two_plans,
+    editions::two_editions,
 ];
 
 const SEED: u64 = 1;

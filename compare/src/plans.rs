@@ -1,16 +1,17 @@
 //! The kinds about the rebuild plan: samples, lists of places, accepted and refused calls.
 
-use crate::calls::{random_profile, replace_number, small_and_refused_numbers, Call, Tally};
-use crate::code::{self, Place, Profile, Refusal};
+use crate::calls::{every_lost_node, random_profile, replace_number, small_and_refused_numbers, Call, Tally};
+use crate::code::{self, Place, Profile, Refusal, EDITIONS};
+use crate::download::Wanted;
 use crate::library::{self, Answer, Lent};
 use crate::random::Random;
 use crate::{hex, Count, Outcome};
 
 /// One call: the profile, the lost node and what the buffer for the places holds before.
-struct Case {
-    profile: Profile,
-    lost: usize,
-    places: Vec<u8>,
+pub struct Case {
+    pub profile: Profile,
+    pub lost: usize,
+    pub places: Vec<u8>,
 }
 
 impl Case {
@@ -19,18 +20,14 @@ impl Case {
         Case { profile, lost, places: random.bytes(places_length) }
     }
 
-    fn disagreement(&self, what: String) -> String {
-        let Profile { n, k, rows, t, s } = self.profile;
-        let (lost, places_length) = (self.lost, self.places.len());
-        format!(
-            "plan n={n} k={k} A={rows} t={t} S={s} lost={lost} places_len={places_length} places={}: {what}",
-            hex(&self.places)
-        )
+    pub fn disagreement(&self, what: String) -> String {
+        let Case { profile, lost, places } = self;
+        format!("plan {profile} lost={lost} places_len={} places={}: {what}", places.len(), hex(places))
     }
 
     /// Calls the library; compares the answer with the number of places or the refusal in `expected`, and every
     /// byte that must not change. Gives the plan's bytes, none after a refusal.
-    fn call(&self, expected: Result<usize, Refusal>, random: &mut Random) -> Result<Vec<u8>, String> {
+    pub fn call(&self, expected: Result<usize, Refusal>, random: &mut Random) -> Result<Vec<u8>, String> {
         let mut places = Lent::new(&self.places, random);
         let answer = library::plan(&self.profile, self.lost, &mut places);
         let due = Answer::due(expected);
@@ -43,7 +40,7 @@ impl Case {
         Ok(places.bytes()[..2 * expected.unwrap_or(0)].to_vec())
     }
 
-    fn same_places(&self, given: &[u8], expected: &[u8]) -> Result<(), String> {
+    pub fn same_places(&self, given: &[u8], expected: &[u8]) -> Result<(), String> {
         if given == expected {
             return Ok(());
         }
@@ -67,44 +64,42 @@ impl Call for Case {
     }
 }
 
-/// Document 01's M5 and M6, and its six examples of the number of places with each lost node, as they are
-/// printed there.
+/// Document 01's M5 and M6, and its six examples of the number of places with each lost node, as they are printed
+/// there, in either edition: with (4,2,2) both have the same plans, and the number of places is the same in both.
 pub fn samples(random: &mut Random) -> Outcome {
-    let profile = Profile { n: 4, k: 2, rows: 2, t: 2, s: 1 };
-    for (lost, expected) in [(0, [1, 0, 2, 0, 3, 0, 2, 1]), (3, [2, 1, 1, 1, 0, 1, 1, 0])] {
-        let case = Case { profile, lost, places: vec![0xEE; 8] };
-        let given = case.call(Ok(4), random)?;
-        case.same_places(&given, &expected)?;
-    }
-
-    let mut cases = 2;
     let examples =
         [((4, 2, 2), 4), ((6, 2, 2), 3), ((9, 6, 3), 12), ((14, 10, 2), 15), ((12, 8, 4), 17), ((24, 20, 4), 38)];
-    for ((n, k, rows), count) in examples {
-        for lost in 0..n {
-            let case = Case { profile: Profile { n, k, rows, ..profile }, lost, places: vec![0xEE; 2 * count] };
-            case.call(Ok(count), random)?;
+    let mut cases = 0;
+    for edition in EDITIONS {
+        let profile = Profile { n: 4, k: 2, rows: 2, t: 2, s: 1, edition };
+        for (lost, expected) in [(0, [1, 0, 2, 0, 3, 0, 2, 1]), (3, [2, 1, 1, 1, 0, 1, 1, 0])] {
+            let case = Case { profile, lost, places: vec![0xEE; 8] };
+            let given = case.call(Ok(4), random)?;
+            case.same_places(&given, &expected)?;
             cases += 1;
+        }
+        for ((n, k, rows), count) in examples {
+            for lost in 0..n {
+                let case = Case { profile: Profile { n, k, rows, ..profile }, lost, places: vec![0xEE; 2 * count] };
+                case.call(Ok(count), random)?;
+                cases += 1;
+            }
         }
     }
     Ok(vec![Count::of("samples of plans", cases)])
 }
 
-/// The library's plans without the document's steps: as many places as the formula says, all different, all in
-/// the array, none on the lost node.
+/// The library's plans without the documents' steps: as many places as the formula says, all different, all in the
+/// array, none on the lost node.
 pub fn place_lists(random: &mut Random) -> Outcome {
-    let mut cases = 0;
-    for (n, k, rows) in code::all_accepted() {
-        for lost in 0..n {
-            let profile = random_profile(n, k, rows, random);
-            let count = profile.number_of_places();
-            let case = Case::new(profile, lost, 2 * count, random);
-            let given = case.call(Ok(count), random)?;
-            check_places(&case, &given)?;
-            cases += 1;
-        }
+    let all = every_lost_node(random);
+    for &Wanted { profile, lost, .. } in &all {
+        let count = profile.number_of_places();
+        let case = Case::new(profile, lost, 2 * count, random);
+        let given = case.call(Ok(count), random)?;
+        check_places(&case, &given)?;
     }
-    Ok(vec![Count::of("lists of places", cases)])
+    Ok(vec![Count::of("lists of places", all.len())])
 }
 
 fn check_places(case: &Case, given: &[u8]) -> Result<(), String> {
@@ -132,15 +127,15 @@ pub fn plans(random: &mut Random) -> Outcome {
     every_plan(&mut tally, random)?;
     every_number(&mut tally, random)?;
     mixed_calls(&mut tally, random)?;
-    tally.counts("plans accepted", "plans refused", &[1, 2, 3, 4, 5])
+    tally.counts("plans accepted", "plans refused", &[1, 2, 3, 13, 4, 5])
 }
 
-/// Each accepted (n, k, A) and each lost node, with a buffer exactly long enough, longer, one byte too short,
-/// and shorter still; then with the first nodes past the last.
+/// Each accepted (n, k, A) and each lost node in either edition, with a buffer exactly long enough, longer, one byte
+/// too short, and shorter still; then with the first nodes past the last.
 fn every_plan(tally: &mut Tally, random: &mut Random) -> Result<(), String> {
     for (n, k, rows) in code::all_accepted() {
-        for lost in 0..n + 2 {
-            let profile = random_profile(n, k, rows, random);
+        for (lost, edition) in (0..n + 2).flat_map(|lost| EDITIONS.map(|edition| (lost, edition))) {
+            let profile = random_profile(n, k, rows, random).in_edition(edition);
             let needed = 2 * profile.number_of_places();
             let (longer, shorter) = (needed + random.between(2, 100), random.between(0, needed - 1));
             for length in [needed, needed + 1, longer, needed - 1, needed / 2, shorter, 0] {
@@ -159,7 +154,7 @@ fn every_length(profile: &Profile) -> [usize; 4] {
     [needed, needed - 1, 0, if accepted { needed + 1 } else { 80 }]
 }
 
-/// All small numbers, and every mixture of refusals 1, 2, 3, 4 and 5, also of none.
+/// All small numbers, and every mixture of refusals 1, 2, 3, 13, 4 and 5, also of none.
 fn every_number(tally: &mut Tally, random: &mut Random) -> Result<(), String> {
     for (profile, lost) in small_and_refused_numbers(random) {
         for length in every_length(&profile) {

@@ -1,10 +1,10 @@
 //! The kinds about reading back: samples, data that come back, accepted and refused calls.
 
 use crate::calls::{
-    random_profile, refused_nodes_and_rows, replace_number, small_and_refused_numbers, small_like, Call, Tally, HUGE,
-    OFTEN,
+    random_profile, refused_editions, refused_nodes_and_rows, replace_number, small_and_refused_numbers, small_like,
+    Call, Tally, HUGE, OFTEN,
 };
-use crate::code::{self, Profile, Refusal};
+use crate::code::{self, Profile, Refusal, EDITIONS};
 use crate::download::{Recording, Wanted};
 use crate::generator::{self, random_list, Generator, Sets};
 use crate::library::{self, Answer, Lent};
@@ -36,11 +36,11 @@ impl Case {
     }
 
     fn disagreement(&self, what: String) -> String {
-        let Profile { n, k, rows, t, s } = self.profile;
+        let profile = self.profile;
         let (nodes_length, columns_length, data_length) = (self.nodes.len(), self.columns.len(), self.data.len());
         let (nodes, columns, data) = (hex(&self.nodes), hex(&self.columns), hex(&self.data));
         format!(
-            "read_back n={n} k={k} A={rows} t={t} S={s} nodes_len={nodes_length} nodes={nodes} \
+            "read_back {profile} nodes_len={nodes_length} nodes={nodes} \
              columns_len={columns_length} columns={columns} data_len={data_length} data={data}: {what}"
         )
     }
@@ -104,21 +104,23 @@ impl Call for Case {
 }
 
 /// Document 01's M10, as it is printed there, and M4's data read back from each two columns of its array, since no set
-/// fails with t = 2 (M12). M9 is among the samples of encoding.
+/// fails with t = 2 (M12), in either edition. M9 is among the samples of encoding.
 pub fn samples(random: &mut Random) -> Outcome {
-    let m4 = Profile { n: 4, k: 2, rows: 2, t: 2, s: 1 };
-    let m10 = Profile { t: 5, ..m4 };
-    Case { profile: m10, nodes: vec![0, 3], columns: vec![0; 4], data: vec![0xEE; 4] }
-        .call(Some(Refusal::Ambiguous), random)?;
-
     let array = [0x01, 0x04, 0x02, 0x04, 0x07, 0x00, 0x0C, 0x0C];
-    for nodes in [[0, 1], [0, 2], [0, 3], [1, 2], [1, 3], [2, 3]] {
-        let columns = nodes.map(|node| m4.column_of(&array, node.into())).concat();
-        let case = Case { profile: m4, nodes: nodes.to_vec(), columns, data: vec![0xEE; 4] };
-        let given = case.call(None, random)?;
-        case.same_data(&given, &[0x01, 0x00, 0x02, 0x04])?;
+    for edition in EDITIONS {
+        let m4 = Profile { n: 4, k: 2, rows: 2, t: 2, s: 1, edition };
+        let m10 = Profile { t: 5, ..m4 };
+        Case { profile: m10, nodes: vec![0, 3], columns: vec![0; 4], data: vec![0xEE; 4] }
+            .call(Some(Refusal::Ambiguous), random)?;
+
+        for nodes in [[0, 1], [0, 2], [0, 3], [1, 2], [1, 3], [2, 3]] {
+            let columns = nodes.map(|node| m4.column_of(&array, node.into())).concat();
+            let case = Case { profile: m4, nodes: nodes.to_vec(), columns, data: vec![0xEE; 4] };
+            let given = case.call(None, random)?;
+            case.same_data(&given, &[0x01, 0x00, 0x02, 0x04])?;
+        }
     }
-    Ok(vec![Count::of("samples of readings", 7)])
+    Ok(vec![Count::of("samples of readings", 14)])
 }
 
 /// Node lists of accepted numbers: the first k, the last k and some at random.
@@ -182,7 +184,7 @@ pub fn readings(random: &mut Random) -> Outcome {
     every_mixture(&ambiguous, &mut tally, random)?;
     every_number(&mut tally, random)?;
     mixed_calls(&ambiguous, &mut tally, random)?;
-    tally.counts("readings accepted", "readings refused", &[1, 2, 3, 4, 5, 10])
+    tally.counts("readings accepted", "readings refused", &[1, 2, 3, 13, 4, 5, 10])
 }
 
 /// Profiles with S = 1 and node lists on which two different data give equal columns: all with n up to 8, and of each
@@ -190,7 +192,7 @@ pub fn readings(random: &mut Random) -> Outcome {
 fn ambiguous_readings(random: &mut Random) -> Vec<(Profile, Vec<u8>)> {
     let mut found = Vec::new();
     for (n, k, rows) in code::all_accepted() {
-        let profile = Profile { n, k, rows, t: 2, s: 1 };
+        let profile = Profile { t: 2, s: 1, ..random_profile(n, k, rows, random) };
         if n > 8 {
             found.extend(generator::find_failing(&profile, random));
             continue;
@@ -198,8 +200,9 @@ fn ambiguous_readings(random: &mut Random) -> Vec<(Profile, Vec<u8>)> {
         let mut sets = Sets::of(&profile);
         for t in 2..=255 {
             sets.turn_to(&Profile { t, ..profile });
+            let edition = random.one_of(&EDITIONS);
             let failing = sets.failing().into_iter();
-            found.extend(failing.map(|position| (Profile { t, ..profile }, sets.at(position))));
+            found.extend(failing.map(|position| (Profile { t, edition, ..profile }, sets.at(position))));
         }
     }
     found
@@ -232,9 +235,9 @@ fn any_columns(tally: &mut Tally, random: &mut Random) -> Result<(), String> {
 /// Each set of k nodes with each t for n up to 6, with some t for n = 8.
 fn every_set(tally: &mut Tally, random: &mut Random) -> Result<(), String> {
     for (n, k, rows) in code::all_accepted().into_iter().filter(|&(n, _, _)| n <= 8) {
-        let sets = Sets::of(&Profile { n, k, rows, t: 2, s: 1 });
+        let sets = Sets::of(&Profile { n, k, rows, t: 2, s: 1, edition: 1 });
         for t in (2..=255).filter(|t| n <= 6 || t % 16 == 0) {
-            let profile = Profile { n, k, rows, t, s: 1 };
+            let profile = Profile { t, s: 1, ..random_profile(n, k, rows, random) };
             for position in 0..sets.count() {
                 let columns = random.bytes(profile.data_length());
                 tally.compare(Case::fitting(profile, &sets.at(position), columns, random), random)?;
@@ -361,9 +364,10 @@ fn other_lengths(tally: &mut Tally, random: &mut Random) -> Result<(), String> {
     Ok(())
 }
 
-/// Every mixture of the reasons for 1, 2, 3, 4 and 5, each present or not, on ambiguous readings and on others.
+/// Every mixture of the reasons for 1, 2, 3, 13, 4 and 5, each present or not, on ambiguous readings and on others.
 fn every_mixture(ambiguous: &[(Profile, Vec<u8>)], tally: &mut Tally, random: &mut Random) -> Result<(), String> {
     let shapes = refused_nodes_and_rows();
+    let editions = refused_editions();
     let mut constants = vec![0, 1, 256, 257, 258];
     let mut strips = vec![0, 513, 514, 1024];
     constants.extend(HUGE);
@@ -372,19 +376,22 @@ fn every_mixture(ambiguous: &[(Profile, Vec<u8>)], tally: &mut Tally, random: &m
         let good = Profile { s: random.between(1, 3), ..*profile };
         let lists = faulty_lists(good.n, nodes, random);
         let lengths = lengths_for(&good);
-        for mixture in 0..32 {
-            let with = |reason: u32| mixture >> (reason - 1) & 1 == 1;
+        for mixture in 0..64 {
+            let with = |bit: u32| mixture >> bit & 1 == 1;
             let mut given = good;
-            if with(1) {
+            if with(0) {
                 (given.n, given.k, given.rows) = random.one_of(&shapes);
             }
-            if with(2) {
+            if with(1) {
                 let any = random.one_of(&constants);
                 given.t = random.one_of(&[good.t + 256, any, any]);
             }
-            if with(3) {
+            if with(2) {
                 let any = random.one_of(&strips);
                 given.s = random.one_of(&[good.s + 512, good.s + (1 << 16), any, any]);
+            }
+            if with(3) {
+                given.edition = random.one_of(&editions);
             }
             let list = if with(4) { &lists[random.between(0, lists.len() - 1)] } else { nodes };
             let lengths = if with(5) { random.one_of(&lengths[1..]) } else { lengths[0] };
@@ -396,7 +403,7 @@ fn every_mixture(ambiguous: &[(Profile, Vec<u8>)], tally: &mut Tally, random: &m
     Ok(())
 }
 
-/// All small numbers, and every mixture of refusals 1, 2, 3, 4 and 5, also of none. A number that is no node is put
+/// All small numbers, and every mixture of refusals 1, 2, 3, 13, 4 and 5, also of none. A number that is no node is put
 /// last in the list, or what a byte leaves of it.
 fn every_number(tally: &mut Tally, random: &mut Random) -> Result<(), String> {
     for (profile, node) in small_and_refused_numbers(random) {

@@ -1,11 +1,11 @@
 //! The kinds about rebuilding a lost node: samples, columns that come back, accepted and refused calls.
 
-use crate::bundles::{OLD_SAMPLE, SAMPLE, SAMPLE_WANTED};
+use crate::bundles::{OLD_SAMPLE, SAMPLE, SAMPLE_IN_EDITION_2, SAMPLE_WANTED};
 use crate::calls::{
     every_lost_node, every_shape, random_profile, random_recording, replace_number, small_and_refused_numbers,
     small_like, Call, Tally, EDGES_OF_RUNS,
 };
-use crate::code::{self, Profile, Refusal};
+use crate::code::{self, Profile, Refusal, EDITIONS};
 use crate::download::{joined, Recording, Wanted};
 use crate::library::{self, Answer, Lent};
 use crate::random::Random;
@@ -30,12 +30,11 @@ impl Case {
     }
 
     pub fn disagreement(&self, what: String) -> String {
-        let Wanted { profile: Profile { n, k, rows, t, s }, lost, recording: Recording { scenario, run } } =
-            self.wanted;
+        let Wanted { profile, lost, recording: Recording { scenario, run } } = self.wanted;
         let (bundle_length, column_length) = (self.bundle.len(), self.column.len());
         let (bundle, column) = (hex(&self.bundle), hex(&self.column));
         format!(
-            "rebuild n={n} k={k} A={rows} t={t} S={s} lost={lost} scenario={scenario} run={run} \
+            "rebuild {profile} lost={lost} scenario={scenario} run={run} \
              bundle_len={bundle_length} bundle={bundle} column_len={column_length} column={column}: {what}"
         )
     }
@@ -86,24 +85,30 @@ impl Call for Case {
     }
 }
 
-/// Document 01's M7 and M8, the edges of its bundle's length, and its bundle of 57 bytes, which K2 made an old one.
+/// Document 01's M7 and M8, the edges of its bundle's length, and its bundle of 57 bytes, which K2 made an old one,
+/// each wanted in either edition; and the bundle of the other edition.
 pub fn samples(random: &mut Random) -> Outcome {
-    let m8 = Wanted { lost: 3, ..SAMPLE_WANTED };
-    let m8_bundle = m8.bundle(&[0x00, 0x04, 0x04, 0x02].map(|byte| vec![byte]));
-    for (wanted, bundle, expected) in [(SAMPLE_WANTED, SAMPLE.to_vec(), [0x01, 0x04]), (m8, m8_bundle, [0x0C, 0x0C])] {
-        let case = Case { wanted, bundle, column: vec![0xEE; 2] };
-        let given = case.call(None, random)?;
-        case.same_column(&given, &expected)?;
-    }
     let old = SAMPLE_WANTED.old_bundle(&sample_strips());
     if old != OLD_SAMPLE {
         return Err(format!("this program's old form of document 01's bundle is {}", hex(&old)));
     }
     let around = |bundle: &[u8]| [bundle[..bundle.len() - 1].to_vec(), [bundle, &[0]].concat()];
-    let all = [&around(&SAMPLE)[..], &[old], &around(&OLD_SAMPLE)].concat();
-    let cases = 2 + all.len();
-    for bundle in all {
-        Case { wanted: SAMPLE_WANTED, bundle, column: vec![0xEE; 2] }.call(Some(Refusal::BundleForm), random)?;
+    let mut cases = 0;
+    for (edition, own, other) in [(1, &SAMPLE[..], &SAMPLE_IN_EDITION_2[..]), (2, &SAMPLE_IN_EDITION_2, &SAMPLE)] {
+        let m7 = SAMPLE_WANTED.in_edition(edition);
+        let m8 = Wanted { lost: 3, ..m7 };
+        let m8_bundle = m8.bundle(&[0x00, 0x04, 0x04, 0x02].map(|byte| vec![byte]));
+        for (wanted, bundle, expected) in [(m7, own.to_vec(), [0x01, 0x04]), (m8, m8_bundle, [0x0C, 0x0C])] {
+            let case = Case { wanted, bundle, column: vec![0xEE; 2] };
+            let given = case.call(None, random)?;
+            case.same_column(&given, &expected)?;
+            cases += 1;
+        }
+        let refused = [&around(own)[..], &[other.to_vec(), old.clone()], &around(&OLD_SAMPLE)].concat();
+        for bundle in refused {
+            Case { wanted: m7, bundle, column: vec![0xEE; 2] }.call(Some(Refusal::BundleForm), random)?;
+            cases += 1;
+        }
     }
     Ok(vec![Count::of("samples of rebuilds", cases)])
 }
@@ -113,8 +118,8 @@ pub fn sample_strips() -> Vec<Vec<u8>> {
     [0x02, 0x07, 0x0C, 0x00].map(|byte| vec![byte]).to_vec()
 }
 
-/// Bundles cut from encoded arrays: the column that was lost comes back. Each accepted (n, k, A) with each lost node
-/// and a short strip, then each with one node and strips at the ceiling.
+/// Bundles cut from encoded arrays: the column that was lost comes back. Each accepted (n, k, A) with each lost node in
+/// either edition and a short strip, then each with one node and strips at the ceiling.
 pub fn recovered(random: &mut Random) -> Outcome {
     let mut all = every_lost_node(random);
     all.extend(every_shape(511..=512, random));
@@ -144,7 +149,7 @@ pub fn rebuilds(random: &mut Random) -> Outcome {
     some_bytes_changed(&mut tally, random)?;
     every_number(&mut tally, random)?;
     mixed_calls(&mut tally, random)?;
-    tally.counts("rebuilds accepted", "rebuilds refused", &[1, 2, 3, 4, 5, 6, 7, 8, 9])
+    tally.counts("rebuilds accepted", "rebuilds refused", &[1, 2, 3, 13, 4, 5, 6, 7, 8, 9])
 }
 
 /// Random strips for these accepted or small numbers.
@@ -170,7 +175,8 @@ fn single_strips(tally: &mut Tally, random: &mut Random) -> Result<(), String> {
     Ok(())
 }
 
-/// Each accepted (n, k, A) and each lost node with random strips, then some with strips at the ceiling.
+/// Each accepted (n, k, A) and each lost node in either edition with random strips, then some with strips at the
+/// ceiling.
 fn any_strips(tally: &mut Tally, random: &mut Random) -> Result<(), String> {
     let mut all = every_lost_node(random);
     all.extend(every_shape(511..=512, random).into_iter().step_by(8));
@@ -181,17 +187,19 @@ fn any_strips(tally: &mut Tally, random: &mut Random) -> Result<(), String> {
     Ok(())
 }
 
-/// Document 01's bundle and one with S = 3, with each byte changed to each other value.
+/// Document 01's bundle and one with S = 3, in either edition, with each byte changed to each other value.
 fn every_byte_changed(tally: &mut Tally, random: &mut Random) -> Result<(), String> {
-    let profile = Profile { n: 6, k: 3, rows: 3, t: 29, s: 3 };
+    let profile = Profile { n: 9, k: 3, rows: 3, t: 29, s: 3, edition: 1 };
     let other = Wanted { profile, lost: 4, recording: Recording { scenario: 0x0102_0304, run: 0x0506 } };
-    let other_bundle = random_bundle(&other, random);
-    for (wanted, bundle) in [(SAMPLE_WANTED, SAMPLE.to_vec()), (other, other_bundle)] {
-        for at in 0..bundle.len() {
-            for change in 1..=255 {
-                let mut changed = bundle.clone();
-                changed[at] ^= change;
-                tally.compare(Case::fitting(wanted, changed, random), random)?;
+    for edition in EDITIONS {
+        let [sample, other] = [SAMPLE_WANTED, other].map(|wanted| wanted.in_edition(edition));
+        for (wanted, bundle) in [(sample, sample.bundle(&sample_strips())), (other, random_bundle(&other, random))] {
+            for at in 0..bundle.len() {
+                for change in 1..=255 {
+                    let mut changed = bundle.clone();
+                    changed[at] ^= change;
+                    tally.compare(Case::fitting(wanted, changed, random), random)?;
+                }
             }
         }
     }
@@ -230,7 +238,11 @@ fn other_forms(tally: &mut Tally, random: &mut Random) -> Result<(), String> {
         let strips = random_strips(&wanted, random);
         let count = 2 + strips.len();
         for index in 0..count {
-            let start = if index < 2 { 9 * index } else { wanted.strip_field_start(index - 2) };
+            let start = match index {
+                0 => 0,
+                1 => wanted.lost_field_start(),
+                _ => wanted.strip_field_start(index - 2),
+            };
             for (at, change) in [(0, 1), (0, 2), (0, 3), (0, 0x80), (1, 1), (1, 0x80), (2, 1), (2, 2), (2, 0xFF)] {
                 let mut bundle = wanted.bundle(&strips);
                 bundle[start + at] ^= change;
@@ -302,8 +314,9 @@ fn other_strips(tally: &mut Tally, random: &mut Random) -> Result<(), String> {
 
 /// Puts what is wanted into field 02 of a bundle.
 pub fn put_lost_field(wanted: &Wanted, bundle: &mut [u8]) {
-    bundle[12] = wanted.lost as u8;
-    bundle[13..19].copy_from_slice(&wanted.recording.bytes());
+    let content = &mut bundle[wanted.lost_field_start() + 3..wanted.strip_field_start(0)];
+    content[0] = wanted.lost as u8;
+    content[1..].copy_from_slice(&wanted.recording.bytes());
 }
 
 /// Runs other than this recording's, also such as a wrong comparison could take for it: one bit changed, the two bytes
@@ -375,7 +388,7 @@ fn other_profiles(tally: &mut Tally, random: &mut Random) -> Result<(), String> 
                 let mut patched = bundle.clone();
                 patched[3..6].copy_from_slice(&[n as u8, k as u8, rows as u8]);
                 tally.compare(Case::fitting(wanted, patched.clone(), random), random)?;
-                patched[12] = wanted.lost as u8;
+                patched[wanted.lost_field_start() + 3] = wanted.lost as u8;
                 tally.compare(Case::fitting(wanted, patched, random), random)?;
             }
         }
@@ -391,7 +404,8 @@ fn some_bytes_changed(tally: &mut Tally, random: &mut Random) -> Result<(), Stri
             let mut bundle = random_bundle(&wanted, random);
             for _ in 0..random.between(1, 3) {
                 let field = wanted.strip_field_start(random.between(0, wanted.places().len() - 1));
-                let (in_head, in_field) = (random.between(0, 18), field + random.between(0, 10));
+                let first = wanted.strip_field_start(0);
+                let (in_head, in_field) = (random.between(0, first - 1), field + random.between(0, 10));
                 let anywhere = random.between(0, bundle.len() - 1);
                 let at = random.one_of(&[in_head, in_field, in_field, in_field, in_field, anywhere]);
                 bundle[at] ^= random.between(1, 255) as u8;
@@ -403,13 +417,14 @@ fn some_bytes_changed(tally: &mut Tally, random: &mut Random) -> Result<(), Stri
 }
 
 /// A bundle in order for these numbers, or for what a narrower type leaves of them, with buffers for the column that
-/// fit and that do not; then other bytes.
+/// fit and that do not; then other bytes, and a bundle of the other edition.
 fn every_length(wanted: Wanted, tally: &mut Tally, random: &mut Random) -> Result<(), String> {
     let small = small_like(&wanted);
     let bundle = random_bundle(&small, random);
     let column = small.profile.column_length();
     let any = random.bytes(bundle.len());
     let longer = [&bundle[..], &[0]].concat();
+    let other_edition = random_bundle(&small.in_other_edition(), random);
     for (bundle, column_length) in [
         (bundle.clone(), column),
         (bundle.clone(), column.saturating_sub(1)),
@@ -417,6 +432,7 @@ fn every_length(wanted: Wanted, tally: &mut Tally, random: &mut Random) -> Resul
         (any.clone(), column),
         (any, column + 1),
         (longer, column),
+        (other_edition, column),
         (Vec::new(), column),
         (Vec::new(), 0),
     ] {
@@ -425,8 +441,8 @@ fn every_length(wanted: Wanted, tally: &mut Tally, random: &mut Random) -> Resul
     Ok(())
 }
 
-/// All small numbers, and every mixture of refusals 1, 2, 3, 4 and 5, also of none, with bundles that are in order and
-/// others.
+/// All small numbers, and every mixture of refusals 1, 2, 3, 13, 4 and 5, also of none, with bundles that are in order
+/// and others.
 fn every_number(tally: &mut Tally, random: &mut Random) -> Result<(), String> {
     for (profile, lost) in small_and_refused_numbers(random) {
         every_length(Wanted { profile, lost, recording: random_recording(random) }, tally, random)?;
@@ -434,7 +450,7 @@ fn every_number(tally: &mut Tally, random: &mut Random) -> Result<(), String> {
     Ok(())
 }
 
-/// Several reasons to refuse at once, of all nine, each present or not.
+/// Several reasons to refuse at once, of all ten, each present or not.
 fn mixed_calls(tally: &mut Tally, random: &mut Random) -> Result<(), String> {
     let accepted = code::all_accepted();
     for _ in 0..100_000 {
@@ -445,13 +461,15 @@ fn mixed_calls(tally: &mut Tally, random: &mut Random) -> Result<(), String> {
         let mut bundle = random_bundle(&cut, random);
         let mut column_length = profile.column_length();
         let strip = random.between(0, cut.places().len() - 1);
+        let second = cut.lost_field_start();
         for _ in 0..random.between(1, 3) {
+            let (in_first, in_second) = (random.between(3, second - 1), second + random.between(3, 9));
             match random.between(0, 8) {
                 0 => replace_number(&profile, &mut wanted.profile, &mut wanted.lost, random),
                 1 => column_length = random.one_of(&[profile.column_length() - 1, profile.column_length() + 1]),
-                2 => bundle[random.one_of(&[0, 1, 2, 9, 10, 11])] ^= 1,
+                2 => bundle[random.one_of(&[0, second]) + random.between(0, 2)] ^= 1,
                 3 => bundle[cut.strip_field_start(strip) + random.between(0, 2)] ^= 1,
-                4 => bundle[random.one_of(&[3, 4, 5, 6, 7, 8, 12, 13, 14, 15, 16, 17, 18])] ^= 1,
+                4 => bundle[random.one_of(&[in_first, in_second])] ^= 1,
                 5 | 6 => misplace(&cut, &mut bundle, random.between(strip, cut.places().len() - 1), random),
                 _ => make_stale(&cut, &mut bundle, random.between(0, strip), random),
             }

@@ -2,8 +2,8 @@
 //! answer is known.
 
 use crate::bundles::SAMPLE_WANTED;
-use crate::calls::{every_lost_node, every_shape, Tally};
-use crate::code::{self, Profile, Refusal};
+use crate::calls::{every_lost_node, every_shape, with_length, Tally};
+use crate::code::{Profile, Refusal, EDITIONS};
 use crate::download::Wanted;
 use crate::library::Answer;
 use crate::random::Random;
@@ -12,7 +12,7 @@ use crate::Outcome;
 
 /// Compares a call whose bundle was made so that this is its answer. The documents' sentences, as download.rs has them,
 /// must say the same of it.
-fn compare_made(
+pub fn compare_made(
     due: Option<Refusal>,
     wanted: Wanted,
     bundle: Vec<u8>,
@@ -38,10 +38,10 @@ pub fn two_runs(random: &mut Random) -> Outcome {
     tally.counts("rebuilds of one run accepted", "rebuilds of two runs refused", &[7, 8, 9])
 }
 
-/// Each run of the sample's scenario, and beside it another one.
+/// Each run of the sample's scenario, and beside it another one, in any edition.
 fn every_run(tally: &mut Tally, random: &mut Random) -> Result<(), String> {
     for run in 0..=u16::MAX {
-        let wanted = SAMPLE_WANTED.with_run(run);
+        let wanted = SAMPLE_WANTED.with_run(run).in_edition(random.one_of(&EDITIONS));
         let runs = other_runs(wanted.recording, random);
         compare_made(None, wanted, wanted.bundle(&sample_strips()), tally, random)?;
         another_run(wanted, random.one_of(&runs), &sample_strips(), tally, random)?;
@@ -159,7 +159,8 @@ fn runs_and_places(tally: &mut Tally, random: &mut Random) -> Result<(), String>
     Ok(())
 }
 
-/// K2: "old bundles get 6". Each accepted (n, k, A) with each lost node, for any run and for run 0.
+/// K2: "old bundles get 6". Each accepted (n, k, A) with each lost node, wanted in either edition, for any run and for
+/// run 0.
 pub fn old_bundles(random: &mut Random) -> Outcome {
     let mut tally = Tally::default();
     for wanted in every_lost_node(random) {
@@ -173,17 +174,24 @@ pub fn old_bundles(random: &mut Random) -> Outcome {
     Ok(vec![tally.refused_count("rebuilds from old bundles refused", &[6])?])
 }
 
-/// Old bundles, and such as have an old field 02 or old fields 03 alone: as they are, and made as long as is wanted by
-/// bytes at the end. Then old bundles of that length with longer strips and either S in field 01: two bytes longer, so
-/// that the fields 03 have the length that is wanted, or three, which with two places needs no cut.
+/// Old bundles, which are of edition 1, and such as have the wanted field 01, an old field 02 or old fields 03 alone:
+/// as they are, and made as long as is wanted by bytes at the end. Then old bundles of that length with longer strips
+/// and either S in field 01: two bytes longer, so that the fields 03 have the length that is wanted, or three, which
+/// needs no cut with two places where edition 1 is wanted, with three places where edition 2 is.
 fn old_forms(wanted: &Wanted, random: &mut Random) -> Vec<Vec<u8>> {
     let strips = random_strips(wanted, random);
     let (new, old) = (wanted.bundle(&strips), wanted.old_bundle(&strips));
-    let old_strips = [&new[..19], &old[17..]].concat();
-    let old_head = [&old[..17], &new[19..]].concat();
+    let (second, first_strip) = (wanted.lost_field_start(), wanted.strip_field_start(0));
+    let new_profile = [&new[..second], &old[9..]].concat();
+    let old_strips = [&new[..first_strip], &old[17..]].concat();
+    let old_head = [&old[..17], &new[first_strip..]].concat();
+    let old_lost_field = [&new[..second], &old[9..17], &new[first_strip..]].concat();
     let (zeros, any) = (vec![0; new.len()], random.bytes(new.len()));
     let mut all = Vec::new();
-    for bundle in [old, old_strips, old_head] {
+    // where edition 1 is wanted, the wanted field 01 is the old one
+    let mut forms = vec![old, new_profile, old_strips, old_head, old_lost_field];
+    forms.dedup();
+    for bundle in forms {
         all.extend([&zeros, &any, &new].map(|filling| [&bundle, &filling[bundle.len()..]].concat()));
         all.push(bundle);
     }
@@ -192,25 +200,16 @@ fn old_forms(wanted: &Wanted, random: &mut Random) -> Vec<Vec<u8>> {
         let mut bundle = longer.old_bundle(&random_strips(&longer, random));
         bundle.resize(new.len(), 0);
         let mut wanted_profile = bundle.clone();
-        wanted_profile[..9].copy_from_slice(&new[..9]);
+        wanted_profile[..second].copy_from_slice(&new[..second]);
         all.extend([bundle, wanted_profile]);
     }
     all
 }
 
-/// Whole old bundles of the length that is wanted, for other accepted (n, k, A): those with an S that gives it.
+/// Whole old bundles with the length that is wanted, for other profiles.
 fn other_old_profiles(tally: &mut Tally, random: &mut Random) -> Result<(), String> {
-    for wanted in every_shape(1..=8, random) {
-        let length = wanted.bundle_length();
-        for (n, k, rows) in code::all_accepted() {
-            let cut = |s: usize| Wanted {
-                profile: Profile { n, k, rows, s, ..wanted.profile },
-                lost: wanted.lost % n,
-                ..wanted
-            };
-            let Some(old) = (1..=code::MOST_STRIP_BYTES).map(cut).find(|old| old.old_bundle_length() == length) else {
-                continue;
-            };
+    for wanted in every_shape(1..=8, random).iter().flat_map(Wanted::in_either_edition) {
+        for old in with_length(&wanted, wanted.bundle_length(), Wanted::old_bundle_length) {
             let bundle = old.old_bundle(&random_strips(&old, random));
             compare_made(Some(Refusal::BundleForm), wanted, bundle, tally, random)?;
         }

@@ -1,7 +1,7 @@
 //! The kinds about the survey of a profile: samples, accepted calls by their outcome, and refused calls.
 
 use crate::calls::{self, random_profile, replace_number, small_and_refused_numbers, Tally, HUGE, OFTEN};
-use crate::code::{self, Profile, Refusal};
+use crate::code::{self, Profile, Refusal, EDITIONS};
 use crate::download::{Recording, Wanted};
 use crate::generator::{self, Found, Sets, Survey};
 use crate::library::{self, Lent, SurveyAnswer};
@@ -22,11 +22,9 @@ impl Case {
     }
 
     fn disagreement(&self, what: String) -> String {
-        let Profile { n, k, rows, t, s } = self.profile;
-        let (start, most, set_length, set) = (self.start, self.most, self.set.len(), hex(&self.set));
-        format!(
-            "survey n={n} k={k} A={rows} t={t} S={s} start={start} most={most} set_len={set_length} set={set}: {what}"
-        )
+        let Case { profile, start, most, set } = self;
+        let (set_length, set) = (set.len(), hex(set));
+        format!("survey {profile} start={start} most={most} set_len={set_length} set={set}: {what}")
     }
 
     /// Calls the library; compares answer, set written and every byte that must not change with the survey or the
@@ -91,32 +89,34 @@ impl Surveys {
             return Err(format!("{what}: met {cases} times, not {OFTEN}"));
         }
         let mut counts: Vec<Count> = accepted.into_iter().map(|(what, cases)| Count::of(what, cases)).collect();
-        counts.push(self.tally.refused_count("surveys refused", &[1, 2, 3, 4, 5])?);
+        counts.push(self.tally.refused_count("surveys refused", &[1, 2, 3, 13, 4, 5])?);
         Ok(counts)
     }
 }
 
-/// Document 01's M11 and M12, as they are printed there.
+/// Document 01's M11 and M12, as they are printed there, in either edition.
 pub fn samples(random: &mut Random) -> Outcome {
-    let m12 = Profile { n: 4, k: 2, rows: 2, t: 2, s: 1 };
-    let m11 = Profile { t: 5, ..m12 };
-    let failing = Found::Failing { position: 2, set: vec![0x00, 0x03] };
-    for (profile, start, most, found, looked_at) in [
-        (m11, 0, 6, failing, 3),
-        (m12, 0, 6, Found::Done, 6),
-        (m12, 0, 2, Found::Open, 2),
-        (m12, 0, 0, Found::Open, 0),
-        (m12, 6, 0, Found::Done, 0),
-    ] {
-        let case = Case { profile, start, most, set: vec![0xEE; 2] };
-        case.call(Ok(&Survey { found, looked_at }), random)?;
+    for edition in EDITIONS {
+        let m12 = Profile { n: 4, k: 2, rows: 2, t: 2, s: 1, edition };
+        let m11 = Profile { t: 5, ..m12 };
+        let failing = Found::Failing { position: 2, set: vec![0x00, 0x03] };
+        for (profile, start, most, found, looked_at) in [
+            (m11, 0, 6, failing, 3),
+            (m12, 0, 6, Found::Done, 6),
+            (m12, 0, 2, Found::Open, 2),
+            (m12, 0, 0, Found::Open, 0),
+            (m12, 6, 0, Found::Done, 0),
+        ] {
+            let case = Case { profile, start, most, set: vec![0xEE; 2] };
+            case.call(Ok(&Survey { found, looked_at }), random)?;
+        }
     }
-    Ok(vec![Count::of("samples of surveys", 5)])
+    Ok(vec![Count::of("samples of surveys", 10)])
 }
 
 /// Whole calls, each counted by its outcome or as refused.
 pub fn surveys(random: &mut Random) -> Outcome {
-    let sets = Sets::of(&Profile { n: 4, k: 2, rows: 2, t: 2, s: 1 });
+    let sets = Sets::of(&Profile { n: 4, k: 2, rows: 2, t: 2, s: 1, edition: 1 });
     let mut surveys = Surveys { sets, tally: Tally::default(), failing: 0, done: 0, open: 0 };
     small_shapes(&mut surveys, random)?;
     every_constant(&mut surveys, random)?;
@@ -260,7 +260,7 @@ fn small_like(profile: &Profile) -> Profile {
     calls::small_like(&Wanted { profile: *profile, lost: 0, recording: Recording::default() }).profile
 }
 
-/// All small numbers, and every mixture of refusals 1, 2, 3, 4 and 5, also of none.
+/// All small numbers, and every mixture of refusals 1, 2, 3, 13, 4 and 5, also of none.
 fn every_number(surveys: &mut Surveys, random: &mut Random) -> Result<(), String> {
     for (profile, start) in small_and_refused_numbers(random) {
         let k = small_like(&profile).k;
