@@ -7,6 +7,9 @@
 
 enum { FIRST_T = 2, LAST_T = 255, CONSTANTS = LAST_T - FIRST_T + 1 };
 
+/* A survey must be given them, and turns on neither. */
+enum { S = 1, EDITION = 2 };
+
 /* A sample is runs of RUN sets that follow each other, the runs evenly over all sets. All t are tried on FIRST_RUNS
  * runs; the best quarter of them is tried on four times as many, and so on until one is left. The last four t are tried
  * on WHOLE sets; a shape that has no more is not left to samples. The head of the page, in tools/constants, has these
@@ -36,7 +39,7 @@ static size_t number_of_sets(size_t n, size_t k)
 
 static uint64_t survey(const struct shape *shape, size_t t, size_t start, size_t most, uint8_t *set)
 {
-    uint64_t answer = whaupfield_survey(shape->n, shape->k, shape->a, t, 1, start, most, set, shape->k);
+    uint64_t answer = whaupfield_survey(shape->n, shape->k, shape->a, t, S, EDITION, start, most, set, shape->k);
 
     if (WHAUPFIELD_NUMBER(answer) != 0) {
         fprintf(stderr, "constants: (%zu,%zu,%zu), t = %zu: refused %u\n", shape->n, shape->k, shape->a, t,
@@ -145,7 +148,7 @@ static int accepted(size_t n, size_t k, size_t a)
 {
     uint8_t set[WHAUPFIELD_MAX_NODES];
 
-    return WHAUPFIELD_NUMBER(whaupfield_survey(n, k, a, FIRST_T, 1, 0, 0, set, k)) == 0;
+    return WHAUPFIELD_NUMBER(whaupfield_survey(n, k, a, FIRST_T, S, EDITION, 0, 0, set, k)) == 0;
 }
 
 /* The better of the t that samples leave for this shape and the t that they leave for (n,n-k,A), which often serves
