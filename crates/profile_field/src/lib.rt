@@ -12,7 +12,7 @@ use fields::OPENING;
 // How many bytes the longest content takes.
 pub const MAX_CONTENT: usize = 7;
 
-// How long the content is: one byte longer than in edition 1, for the edition.
+// How long the content is: six bytes in edition 1, and one more, the edition, from edition 2 on.
 fn content_length(p: Profile) -> usize
     ensures { λ r. ⌜ r ≡ profileContentLength p ⌝ }
 {
@@ -20,6 +20,16 @@ fn content_length(p: Profile) -> usize
         return 6;
     }
     MAX_CONTENT
+}
+
+// What the field opens with, its tag and its length: 'the three bytes 01 00 06', from edition 2 on 01 00 07.
+fn opening_bytes(p: Profile) -> [u8; OPENING]
+    ensures { λ r. ⌜ r ≡ opening 1 (profileContentLength p) ⌝ }
+{
+    if p.edition == 1 {
+        return *b"\x01\x00\x06";
+    }
+    *b"\x01\x00\x07"
 }
 
 // The content: as many of these bytes as it is long.
@@ -43,9 +53,10 @@ pub fn put(out: &mut [u8], at: usize, p: Profile) -> usize
     requires { ⌜ Accepted p × (at + profileFieldLength p ≤ length (now out)) ⌝ }
     ensures { λ next. ⌜ Wrote (now (out .entry)) at (fieldOf 1 (profileContent p)) next (now (out .exit)) ⌝ }
 {
+    let opening = opening_bytes(p);
     let len = content_length(p);
     let content = content_bytes(p);
-    let after_opening = fields::put_opening(out, at, 1, len);
+    let after_opening = lists::put_bytes(out, at, &opening);
     lists::put_bytes(out, after_opening, &content[..len])
 }
 
@@ -54,7 +65,8 @@ pub fn opened(p: Profile, b: &[u8], at: usize) -> bool
     requires { ⌜ at + openingLength ≤ length (now b) ⌝ }
     ensures { λ r. ⌜ r ≡ same (slice (now (b .entry)) at openingLength) (opening 1 (profileContentLength p)) ⌝ }
 {
-    fields::opens(b, at, 1, content_length(p))
+    let opening = opening_bytes(p);
+    lists::same_at(b, at, &opening)
 }
 
 // Whether its content is that of this profile.
