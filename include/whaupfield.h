@@ -17,11 +17,12 @@
  * or 2. Nodes and rows count from 0. In memory the strip of row i, node j starts at (j*a + i) * s, so a node's column
  * is its a strips, row 0 first; data use the same order with j < k.
  *
- * The edition says which nodes a plan reads and how a bundle begins, and nothing else: arrays, data, readings and
- * surveys are the same in both. Edition 1 takes the nodes of steps 2 and 3 rising from node 0, so that low-numbered
- * drives are read most; edition 2 takes them from the node after the lost one, rising and wrapping past n-1 to 0, so
- * that the load is spread (docs/LOAD.md). Both read as many places. A bundle is rebuilt with the edition that it was
- * written with; with the other one it is refused with 6. Use 2 for what is new, and 1 for bundles kept from before.
+ * The edition says in which order a plan goes over the nodes outside the lost group, and how a bundle begins; arrays,
+ * data, readings and surveys are the same in both. Edition 1 begins at node 0, so that low-numbered drives are read
+ * most; edition 2 begins at the node after the lost one, rising and wrapping past n-1 to 0, which spreads what is read
+ * over the drives (docs/LOAD.md). Both read as many places, and where k is n-a the same ones in another order. A bundle
+ * is rebuilt with the edition that it was written with; with the other one it is refused with 6. Use 2 for what is new,
+ * and 1 for bundles kept from before.
  *
  * A recording is a scenario and a run of it: two runs of one scenario are two recordings, and in one bundle their
  * strips do not pass together. The host gives each run a number of its own. Only a bundle's fields carry a recording:
