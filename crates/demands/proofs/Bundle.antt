@@ -1,10 +1,12 @@
 -- The bundle: writing one, demand 1, and what is cut from a stored array.
 use mathlib.Core.Path.{_≡_, refl, sym, ap, _∙_}
 use mathlib.Core.Bool.{_&&_}
-use mathlib.Core.List.{List, [], _∷_}
+use mathlib.Core.List.{List, [], _∷_, _++_}
 use Prim.Native.Nat.{ℕ, _+_, _*_, _<_}
+use native.Mathlib.Omega.{arith}
 use lib.Dec.{eqb}
 use lib.ListN.{length}
+use Rattle.lists.specs.Put.{slice}
 use Rattle.lists.specs.Each.{Each}
 use Rattle.lists.proofs.Each.{each-from}
 use Rattle.fields.specs.Fields.{twoBytes, fourBytes}
@@ -19,7 +21,7 @@ use Rattle.document.specs.Profile.{Accepted, profileOf}
 use Rattle.document.specs.Places.{place}
 use Rattle.document.specs.Plan.{planned}
 use Rattle.document.specs.Encoding.{stripOf}
-use Rattle.document.specs.Message.{recordingBytes}
+use Rattle.document.specs.Message.{recordingBytes, stripIn}
 use Rattle.document.specs.Bundle.{
   lostContent,
   bundleLength,
@@ -35,11 +37,11 @@ use Rattle.document.proofs.Message.{Whole, written-strip, message-ext}
 use Rattle.document.proofs.Bundle.{strips-whole, bundle-length}
 use Rattle.demands.specs.Tables.{Decided, none, line}
 use Rattle.demands.specs.Strips.{HasStrips, AlikeAt}
-use Rattle.demands.specs.Message.{byEdition}
-use Rattle.demands.specs.Bundle.{writeSentences, Demand1Write, WrittenBundle, Demand3Write, CutFrom}
+use Rattle.demands.specs.Message.{byEdition, Formed, Headed}
+use Rattle.demands.specs.Bundle.{writeSentences, Demand1Write, WrittenBundle, Demand3Write, StripsAt, CutFrom}
 use Rattle.demands.proofs.Tables.{by-name}
 use Rattle.demands.proofs.Profile.{Granted, CallFor, call-for}
-use Rattle.demands.proofs.Message.{bundle-length-is, AsWanted, written-wanted}
+use Rattle.demands.proofs.Message.{field-is, bundle-number, bundle-length-is, AsWanted, written-wanted}
 use Rattle.demands.proofs.Whole.{all-fixed}
 
 -- ---- the call
@@ -105,10 +107,22 @@ module _ (p : Numbers) (f : ℕ) (r : Recording) (x b : List ℕ) where
     total : length bundle ≡ byEdition wanted 19 20 + length (planned wanted node) * (11 + p .s)
     total = bundle-length wanted accepted x (sizes .0) r node below ∙ bundle-length-is wanted _
 
+    -- what is cut is as wanted
+    bundle-wanted : AsWanted wanted (lostContent node r) r (planned wanted node) bundle
+    unfolding bundleOf
+    bundle-wanted = written-wanted wanted (lostContent node r) r (stripOf wanted x) whole accepted
+
+    in-numbers : Formed wanted 7 (length (planned wanted node)) bundle
+        × Headed wanted 7 (f ∷ (fourBytes (r .scenario) ++ twoBytes (r .run))) bundle
+    unfolding lostContent recordingBytes fourBytes twoBytes
+    in-numbers = (bundle-wanted .is-formed, bundle-wanted .is-headed)
+
     written-bundle : WrittenBundle p f r x b
     unfolding answerValue
     written-bundle = record {
       holds = left;
+      formed = rw left (in-numbers .0);
+      headed = rw left (in-numbers .1);
       strips = rw left strips-in;
       size = ap length left ∙ total
           ∙ ap (λ (m : ℕ). byEdition wanted 19 20 + m * (11 + p .s)) (planned-price wanted accepted node below);
@@ -118,13 +132,12 @@ module _ (p : Numbers) (f : ℕ) (r : Recording) (x b : List ℕ) where
         left : writeOf p f r x b .1 ≡ bundle
         left = ap (λ o. o .1) (granted .is-done)
 
-    -- what is cut is as wanted
-    bundle-wanted : AsWanted wanted (lostContent node r) r (planned wanted node) bundle
-    unfolding bundleOf
-    bundle-wanted = written-wanted wanted (lostContent node r) r (stripOf wanted x) whole
-
 pub demand-3-write : Demand3Write
 demand-3-write p f r x b e = written-bundle p f r x b e
+
+pub strips-at : StripsAt
+unfolding stripIn
+strips-at p b i = ap (λ (u : ℕ). slice b u (p .s)) (omega (arith, field-is p 7 i, bundle-number p))
 
 -- ---- a bundle cut from a stored array
 module _ (p : Numbers) (f : ℕ) (x : List ℕ) (r : Recording) (b : List ℕ) (cut : CutFrom p f x r b) where
@@ -157,4 +170,4 @@ module _ (p : Profile) (f : Node) (r : Recording) where
       → length x ≡ p .n * p .a * p .s → HasStrips p (planned p f) x (bundleStrip p b) → b ≡ bundleOf p f r x
   unfolding bundleOf lostContent recordingBytes fourBytes twoBytes
   bundle-whole acc below b x w size has =
-      all-fixed p (lostContent f r) r (stripOf p x) b (strips-whole p acc x size r f below) w has
+      all-fixed p (lostContent f r) r (stripOf p x) b (strips-whole p acc x size r f below) w has acc

@@ -1,6 +1,6 @@
 -- Demand 3, whole.
 use Rattle.demands.specs.Demand3.{Demand3}
-use Rattle.demands.proofs.Plan.{demand-3-places, demand-3-walk, demand-3-order, demand-3-plan}
+use Rattle.demands.proofs.Plan.{demand-3-places, demand-3-walk, demand-3-order, one-walk, demand-3-plan}
 use Rattle.demands.proofs.Strips.{fits, one-column}
 use Rattle.demands.proofs.Rebuild.{
   demand-3-rebuild,
@@ -15,7 +15,7 @@ use Rattle.demands.proofs.Rebuild.{
   other-edition,
   whole-bundle,
 }
-use Rattle.demands.proofs.Bundle.{demand-3-write}
+use Rattle.demands.proofs.Bundle.{demand-3-write, strips-at}
 use Rattle.demands.proofs.Recordings.{one-recording, mixed-refused, together-passes, old-refused}
 
 pub demand-3 : Demand3
@@ -23,6 +23,7 @@ demand-3 = record {
   places = demand-3-places;
   walk = demand-3-walk;
   order = demand-3-order;
+  one-walk = one-walk;
   plan = demand-3-plan;
   fits = fits;
   one-column = one-column;
@@ -34,6 +35,7 @@ demand-3 = record {
   other-edition = other-edition;
   same-answer = same-answer;
   write = demand-3-write;
+  strips-at = strips-at;
   cut-passes = cut-passes;
   cut-column = cut-column;
   cut-rebuilds = cut-rebuilds;

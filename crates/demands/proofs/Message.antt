@@ -6,9 +6,11 @@ use mathlib.Core.Path.{_≡_, refl, sym, ap, ap₂, _∙_}
 use mathlib.Core.Bool.{Bool, true, false, cond}
 use mathlib.Core.List.{List, [], _∷_, _++_}
 use Prim.Native.Nat.{ℕ, _+_, _*_, _/_, _%_, _≤_, _<_}
+use native.Mathlib.Decide.{ℕ-discrete}
 use native.Mathlib.Omega.{arith}
 use lib.Dec.{eqb}
 use lib.ListN.{length, getD}
+use borrow.Author.Tests.{eq-eqb}
 use Rattle.lists.specs.Listed.{listed}
 use Rattle.lists.specs.Put.{slice}
 use Rattle.lists.specs.Each.{Each}
@@ -20,6 +22,7 @@ use Rattle.document.specs.declared.Recording.{Recording}
 use Rattle.document.specs.declared.Refusal.{Refusal}
 use Rattle.document.specs.declared.Refusal.the-variants.{Form, Head, Misplaced, Stale}
 use Rattle.document.specs.Refusals.{numberOf, indexOf, Decides}
+use Rattle.document.specs.Profile.{Accepted}
 use Rattle.document.specs.Places.{place, placeAt}
 use Rattle.document.specs.Message.{
   recordingBytes,
@@ -127,7 +130,7 @@ module _ (p : Profile) where
 
 -- ---- where the fields stand
 module _ (p : Profile) (m : ℕ) where
-  field-is : (i : ℕ) → stripFieldStart p m i ≡ fieldStart p m i
+  pub field-is : (i : ℕ) → stripFieldStart p m i ≡ fieldStart p m i
   unfolding stripFieldStart
   field-is i = ap₂ (λ (h w : ℕ). h + i * w) (omega (arith, head-number p)) (omega arith)
 
@@ -176,17 +179,30 @@ pub bundle-length-is : (p : Profile) (P : ℕ) → messageLength p 7 P ≡ byEdi
 bundle-length-is p P = length-is p 7 P ∙ ap (λ (h : ℕ). h + P * (11 + p .s)) (sym (bundle-number p))
 
 -- the content of field 01
-module _ (p : Profile) (b : List ℕ) where
+module _ (p : Profile) (acc : Accepted p) (b : List ℕ) where
   abbrev fieldOne : List ℕ
-  fieldOne = p .n ∷ p .k ∷ p .a ∷ p .t ∷ (twoBytes (p .s) ++ byEdition p [] (p .edition ∷ []))
+  fieldOne = p .n ∷ p .k ∷ p .a ∷ p .t ∷ (twoBytes (p .s) ++ byEdition p [] (2 ∷ []))
+
+  edition-is : editionBytes (p .edition) ≡ byEdition p [] (2 ∷ [])
+  unfolding editionBytes byEdition
+  edition-is = go (ℕ-discrete (p .edition) 1)
+    where
+      go : Dec (p .edition ≡ 1)
+          → cond (eqb (p .edition) 1) [] (p .edition ∷ []) ≡ cond (eqb (p .edition) 1) [] (2 ∷ [])
+      go (yes e) = rw (eq-eqb (p .edition) 1 e) refl
+      go (no e) =
+          let two : p .edition ≡ 2 = omega (arith, e, acc .first-edition, acc .last-edition) in
+          ap (λ (v : ℕ). cond (eqb (p .edition) 1) [] (v ∷ [])) two
+
+  content-is : profileContent p ≡ fieldOne
+  unfolding profileContent
+  content-is = ap (λ (l : List ℕ). p .n ∷ p .k ∷ p .a ∷ p .t ∷ (twoBytes (p .s) ++ l)) edition-is
 
   pub content-read : slice b 3 (profileContentLength p) ≡ profileContent p → slice b 3 (byEdition p 6 7) ≡ fieldOne
-  unfolding profileContent editionBytes byEdition
-  content-read e = ap (slice b 3) (content-number p) ∙ e
+  content-read e = ap (slice b 3) (content-number p) ∙ e ∙ content-is
 
   pub read-content : slice b 3 (byEdition p 6 7) ≡ fieldOne → slice b 3 (profileContentLength p) ≡ profileContent p
-  unfolding profileContent editionBytes byEdition
-  read-content e = ap (slice b 3) (sym (content-number p)) ∙ e
+  read-content e = ap (slice b 3) (sym (content-number p)) ∙ e ∙ sym content-is
 
 -- ---- what the tests decide
 module _ (p : Profile) (content : List ℕ) (r : Recording) (qs : List Place) (b : List ℕ) where
@@ -223,15 +239,15 @@ module _ (p : Profile) (content : List ℕ) (r : Recording) (qs : List Place) (b
         ),
       ))
 
-  decides-headed : Decides (headed p content b) (Headed p m content b)
+  decides-headed : Accepted p → Decides (headed p content b) (Headed p m content b)
   unfolding headed
-  decides-headed =
+  decides-headed acc =
       decides-same _ (decides-both _ _ (decides-list _ _) (decides-list _ _))
       (λ h. record {
-        field-01 = content-read p b (h .0);
+        field-01 = content-read p acc b (h .0);
         field-02 = ap (λ (u : ℕ). slice b u m) (head-number p) ∙ h .1;
       })
-      (λ h. (read-content p b (h .field-01), ap (λ (u : ℕ). slice b u m) (sym (head-number p)) ∙ h .field-02))
+      (λ h. (read-content p acc b (h .field-01), ap (λ (u : ℕ). slice b u m) (sym (head-number p)) ∙ h .field-02))
 
   decides-placed : (i : ℕ) → Decides (placed (placeAt qs i) b (start i)) (placeRead b (fieldStart p m i) ≡ placeAt qs i)
   unfolding placed
@@ -245,12 +261,13 @@ module _ (p : Profile) (content : List ℕ) (r : Recording) (qs : List Place) (b
       decides-same _ (decides-list (recordingIn b (start i)) (recordingBytes r)) (numbers-read p m b i r)
       (recording-read p m b i r)
 
-  pub message-decided : Decided (messageTests p content r qs b) (messageSentences p (length content) content r qs b)
+  pub message-decided : Accepted p
+      → Decided (messageTests p content r qs b) (messageSentences p (length content) content r qs b)
   unfolding messageTests messageSentences stripSentences
-  message-decided =
+  message-decided acc =
       line refl (decides-not _ decides-formed)
       (λ form.
-      line refl (decides-not _ decides-headed)
+      line refl (decides-not _ (decides-headed acc))
       (λ head.
       decided-then (decided-listed P _ _ (λ i. refl) (λ i. decides-not _ (decides-placed i)))
       (λ past. decided-listed P _ _ (λ i. refl) (λ i. decides-not _ (decides-fresh i)))))
@@ -280,12 +297,12 @@ module _ (p : Profile) (content : List ℕ) (r : Recording) (qs : List Place) (b
       λ i l. numbers-read p m b i r (w .is-fresh i l) in
       search line-by-line depth 20
 
-  module _ (refuted : (q : Refusal) → Holds (messageSentences p (length content) content r qs b) q → ⊥) where
+  module _ (acc : Accepted p) (refuted : (q : Refusal) → Holds (messageSentences p (length content) content r qs b) q → ⊥) where
     pub refuted-wanted : AsWanted
     unfolding messageSentences stripSentences
     refuted-wanted = record {
       is-formed = decided _ decides-formed (λ n. refuted Form (search by-name));
-      is-headed = decided _ decides-headed (λ n. refuted Head (search by-name));
+      is-headed = decided _ (decides-headed acc) (λ n. refuted Head (search by-name));
       is-placed = λ i l. place-is p m b i ∙ decided _ (decides-placed i) (λ n. refuted (Misplaced i) (search by-name));
       is-fresh = λ i l. recording-read p m b i r
           (decided _ (decides-fresh i) (λ n. refuted (Stale i) (search by-name)));
@@ -293,7 +310,7 @@ module _ (p : Profile) (content : List ℕ) (r : Recording) (qs : List Place) (b
 
 -- ---- what is written passes
 module _ (p : Profile) (content : List ℕ) (r : Recording) (strips : Place → List ℕ) {qs : List Place}
-    (whole : Each (Whole r strips (p .s)) qs) where
+    (whole : Each (Whole r strips (p .s)) qs) (acc : Accepted p) where
   pub written-wanted : AsWanted p content r qs (messageOf p content r strips qs)
   unfolding opening twoBytes
   written-wanted = record {
@@ -304,7 +321,7 @@ module _ (p : Profile) (content : List ℕ) (r : Recording) (strips : Place → 
       fields-03 = λ i l. sym (opening-is p (length content) _ i) ∙ written-opening p content r strips whole i l;
     };
     is-headed = record {
-      field-01 = content-read p message (written-first p content r strips whole .1);
+      field-01 = content-read p acc message (written-first p content r strips whole .1);
       field-02 = ap (λ (u : ℕ). slice message u (length content)) (head-number p)
           ∙ written-second p content r strips whole .1;
     };

@@ -1,14 +1,15 @@
 -- Planning: demand 1, and the planned places of demand 3.
-use mathlib.Core.Path.{_≡_, refl, ap}
+use mathlib.Core.Path.{_≡_, refl, ap, ap₂, _∙_}
 use mathlib.Core.Bool.{Bool}
 use mathlib.Core.List.{List, [], _∷_, _++_}
 use Prim.Native.Nat.{ℕ, _+_, _*_, _<_}
+use native.Mathlib.Decide.{ℕ-discrete}
 use native.Mathlib.Omega.{arith}
 use lib.ListN.{length, drop}
 use borrow.Author.Tests.{eq-eqb, ne-eqb}
 use Rattle.lists.specs.Listed.{around}
 use Rattle.lists.specs.Each.{Rises}
-use Rattle.lists.proofs.Around.{around-zero, rising-rises, around-rises}
+use Rattle.lists.proofs.Around.{around-zero, rising-rises, around-rises, once-one}
 use Rattle.document.specs.declared.Numbers.{Numbers}
 use Rattle.document.specs.declared.Profile.{Profile}
 use Rattle.document.specs.declared.Node.{Node}
@@ -21,8 +22,11 @@ use Rattle.document.specs.Plan.{
   isOwn,
   isDiagonal,
   isOffDiagonal,
+  Walk,
+  Complete,
   walkStart,
   walkOf,
+  planOver,
   planned,
   planBytes,
   planTests,
@@ -41,8 +45,10 @@ use Rattle.demands.specs.Plan.{
   Demand1Plan,
   Demand3Places,
   Demand3Walk,
-  distanceFrom,
+  distanceAfter,
+  WalkRises,
   Demand3Order,
+  OneWalk,
   Demand3Plan,
 }
 use Rattle.demands.proofs.Tables.{by-name}
@@ -100,8 +106,38 @@ demand-3-order p f h = record {
     rises-from-zero : {b : ℕ} → b ≡ 0 → (P : ℕ → Bool) → Rises (λ j. j) (around (p .n) b P)
     rises-from-zero e P = rw (e, around-zero) (rising-rises (p .n) P)
 
-    rises-around : {b : ℕ} → b ≡ f .0 + 1 → (P : ℕ → Bool) → Rises (distanceFrom (p .n) f) (around (p .n) b P)
+    rises-around : {b : ℕ} → b ≡ f .0 + 1 → (P : ℕ → Bool) → Rises (distanceAfter (p .n) f) (around (p .n) b P)
     rises-around e P = rw e (around-rises (p .n) (f .0 + 1) P (omega arith))
+
+-- two walks over the same candidates that rise alike are one
+pub one-walk : OneWalk
+one-walk p acc f h w complete rises = planned-over p f ∙ ap (planOver (p .a) (p .k) f) (same (ℕ-discrete (p .edition) 1))
+  where
+    here : Complete (p .n) (p .a) f (walkOf p f)
+    here = walk-complete p f h
+
+    order : WalkRises p f (walkOf p f)
+    order = demand-3-order p f h
+
+    made : {o d s o′ d′ s′ : List ℕ} → o ≡ o′ → d ≡ d′ → s ≡ s′
+        → _≡_ {A = Walk} (record { own = o; diagonal = d; off-diagonal = s })
+        (record { own = o′; diagonal = d′; off-diagonal = s′ })
+    made {o} {d} {s} {o′} {d′} {s′} e₁ e₂ e₃ =
+        ap (λ (l : List ℕ). record { own = l; diagonal = d; off-diagonal = s }) e₁
+        ∙ ap₂ (λ (u v : List ℕ). record { own = o′; diagonal = u; off-diagonal = v }) e₂ e₃
+
+    alike : {d : ℕ → ℕ} → Rises d (walkOf p f .diagonal) × Rises d (walkOf p f .off-diagonal)
+        → Rises d (w .diagonal) × Rises d (w .off-diagonal) → walkOf p f ≡ w
+    alike u v =
+        made (once-one (p .n) (isOwn (p .a) f) (here .own) (complete .own) (order .own) (rises .own))
+        (once-one (p .n) (isDiagonal (p .a) f) (here .diagonal) (complete .diagonal) (u .0) (v .0))
+        (once-one (p .n) (isOffDiagonal (p .a) f) (here .off-diagonal) (complete .off-diagonal) (u .1) (v .1))
+
+    same : Dec (p .edition ≡ 1) → walkOf p f ≡ w
+    same (yes e) = alike (order .edition-1 e) (rises .edition-1 e)
+    same (no e) =
+        let two : p .edition ≡ 2 = omega (arith, e, acc .first-edition, acc .last-edition) in
+        alike (order .edition-2 two) (rises .edition-2 two)
 
 pub demand-3-plan : Demand3Plan
 unfolding planSentences answerValue

@@ -57,6 +57,6 @@ demand-1-program input = record {
   column = column-out _;
   line = λ r first. line-out _ r (demand-1-rebuild _ _ _ _ _ .refuses .given r .1 first);
   never-five = λ first. held (others-alone input) (first-holds first);
-  edition-1 = refl;
+  first-edition = refl;
   never-thirteen = λ first. held (no-thirteen input) (first-holds first);
 }

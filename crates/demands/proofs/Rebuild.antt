@@ -72,13 +72,13 @@ use Rattle.demands.proofs.Bundle.{
 }
 
 -- ---- the call
-rebuild-decided : (p : Profile) (f : Node) (r : Recording) (b y : List ℕ)
+rebuild-decided : (p : Profile) → Accepted p → (f : Node) (r : Recording) (b y : List ℕ)
     → Decided (rebuildTests p f r b y) (rebuildSentences p f r b y)
 unfolding rebuildTests rebuildSentences bundleTests bundleSentences lostContent recordingBytes fourBytes twoBytes
-rebuild-decided p f r b y =
+rebuild-decided p acc f r b y =
     line refl (decides-not _ (decides-lt (f .0) (p .n)))
     (λ h. line refl (decides-not _ (decides-eq (length y) (p .a * p .s)))
-    (λ l. message-decided p (lostContent f r) r (planned p f) b))
+    (λ l. message-decided p (lostContent f r) r (planned p f) b acc))
 
 module _ (p : Numbers) (f : ℕ) (r : Recording) (b y : List ℕ) where
   abbrev profile : Profile
@@ -100,7 +100,7 @@ module _ (p : Numbers) (f : ℕ) (r : Recording) (b y : List ℕ) where
       numberOf indexOf
   rebuild-call =
       call-for p y (λ p. rebuildTests p lost r b y) (λ p. rebuildSentences p lost r b y) (λ p. 0) rebuilt
-      (λ acc. rebuild-decided _ lost r b y)
+      (λ acc. rebuild-decided _ acc lost r b y)
       (ap (λ (l : List (ℕ × ℕ)). (4, 0) ∷ (5, 0) ∷ l)
       (message-numbered profile (lostContent lost r) r (planned profile lost) b))
 
@@ -122,7 +122,7 @@ module _ (p : Numbers) (f : ℕ) (r : Recording) (b y : List ℕ) where
     pub is-wanted : AsWanted profile (lostContent lost r) r (planned profile lost) b
     unfolding rebuildSentences bundleSentences lostContent recordingBytes fourBytes twoBytes
     is-wanted =
-        refuted-wanted profile (lostContent lost r) r (planned profile lost) b
+        refuted-wanted profile (lostContent lost r) r (planned profile lost) b acc
         (λ q h. granted .refuted {r = q} (search by-name))
 
     sound : Sound (p .n) (p .a) lost (walkOf profile lost)

@@ -68,7 +68,7 @@ two-bytes a b l m e =
 
 -- numbers with the same content of field 01
 contentOf : Numbers → List ℕ
-contentOf p = p .n ∷ p .k ∷ p .a ∷ p .t ∷ (twoBytes (p .s) ++ byEdition (profileOf p) [] (p .edition ∷ []))
+contentOf p = p .n ∷ p .k ∷ p .a ∷ p .t ∷ (twoBytes (p .s) ++ byEdition (profileOf p) [] (2 ∷ []))
 
 same-numbers : (p₁ p₂ : Numbers) → p₁ .s ≤ 512 → p₂ .s ≤ 512 → p₁ .edition ≡ p₂ .edition → contentOf p₁ ≡ contentOf p₂
     → p₁ ≡ p₂
@@ -190,7 +190,7 @@ module _ (x y : List ℕ) where
 module _ (p : Profile) (content : List ℕ) (r : Recording) (strips : Place → List ℕ) {qs : List Place} (b : List ℕ)
     (whole : Each (Whole r strips (p .s)) qs) (w : AsWanted p content r qs b)
     (has : (i : ℕ) → i < length qs
-    → strips (placeAt qs i) ≡ stripIn (p .s) b (stripFieldStart p (length content) i)) where
+    → strips (placeAt qs i) ≡ stripIn (p .s) b (stripFieldStart p (length content) i)) (acc : Accepted p) where
   abbrev written : List ℕ
   written = messageOf p content r strips qs
 
@@ -204,7 +204,7 @@ module _ (p : Profile) (content : List ℕ) (r : Recording) (strips : Place → 
       (alike-slice b written 0 openingLength
       (w .is-formed .field-01 ∙ sym (first-number p) ∙ sym (written-first p content r strips whole .0)))
       (alike-slice b written openingLength (profileContentLength p)
-      (read-content p b (w .is-headed .field-01) ∙ sym (written-first p content r strips whole .1)))
+      (read-content p acc b (w .is-headed .field-01) ∙ sym (written-first p content r strips whole .1)))
 
   second : AlikeIn (profileFieldLength p) (headLength p (length content))
   unfolding opening

@@ -5,6 +5,7 @@
 -- Demand1Write p f r x b  : writing a bundle refuses as they say                                    demand-1-write
 -- WrittenBundle p f r x b : what cutting a bundle from x, written into b, leaves and answers
 -- Demand3Write            : writing a bundle that is not refused                                    demand-3-write
+-- StripsAt                : where a bundle's strips stand in it                                    strips-at
 -- CutFrom p f x r b       : b is a bundle cut from the stored array x
 --
 -- bundleSentences p f r b : the lines for a bundle to read, where the profile p, the lost node f and the recording r
@@ -16,6 +17,7 @@ use mathlib.Core.Path.{_≡_}
 use mathlib.Core.List.{List, [], _∷_, _++_}
 use Prim.Native.Nat.{ℕ, _+_, _*_, _<_}
 use lib.ListN.{length}
+use Rattle.lists.specs.Put.{slice}
 use Rattle.fields.specs.Fields.{twoBytes, fourBytes}
 use Rattle.document.specs.declared.Numbers.{Numbers}
 use Rattle.document.specs.declared.Profile.{Profile}
@@ -30,7 +32,7 @@ use Rattle.document.specs.Bundle.{bundleOf, writeTests, writeOf, bundleStrip}
 use Rattle.demands.specs.Tables.{Sentence}
 use Rattle.demands.specs.Profile.{Demand1For}
 use Rattle.demands.specs.Strips.{HasStrips}
-use Rattle.demands.specs.Message.{byEdition, messageSentences}
+use Rattle.demands.specs.Message.{byEdition, Formed, Headed, messageSentences}
 
 -- ---- writing a bundle
 -- 5: 'a lent buffer .. has the wrong length': a stored array has nAS bytes, a bundle 19 + P(11+S), or 20 + P(11+S) in
@@ -56,8 +58,10 @@ module _ (p : Numbers) (f : ℕ) (r : Recording) (x b : List ℕ) where
   written = writeOf p f r x b .1
 
   pub record WrittenBundle : Type 0 where
-    -- the fields of document 01 and K2, field 03 'once a planned place in plan order'
+    -- the fields of document 01, K2 and K6, field 03 'once a planned place in plan order'
     pub holds : written ≡ bundleOf (profileOf p) (record { 0 = f }) r x
+    pub formed : Formed (profileOf p) 7 (length (planned (profileOf p) (record { 0 = f }))) written
+    pub headed : Headed (profileOf p) 7 (f ∷ (fourBytes (r .scenario) ++ twoBytes (r .run))) written
     -- 'it takes its strips from the planned places'
     pub strips : HasStrips (profileOf p) (planned (profileOf p) (record { 0 = f })) x
         (bundleStrip (profileOf p) written)
@@ -70,6 +74,13 @@ abbrev pub Demand3Write : Type 0
 Demand3Write =
     (p : Numbers) (f : ℕ) (r : Recording) (x b : List ℕ) → answerNumber (writeOf p f r x b .0) ≡ 0
     → WrittenBundle p f r x b
+
+-- Past the head and the fields 03 before its own, and past its own first 11 bytes: tag and length, node, row, scenario
+-- and run.
+abbrev pub StripsAt : Type 0
+StripsAt =
+    (p : Profile) (b : List ℕ) (i : ℕ)
+    → bundleStrip p b i ≡ slice b (byEdition p 19 20 + i * (11 + p .s) + 11) (p .s)
 
 -- 'A bundle cut from a stored array is what writing a bundle leaves'.
 pub record CutFrom (p : Numbers) (f : ℕ) (x : List ℕ) (r : Recording) (b : List ℕ) : Type 0 where

@@ -1,6 +1,6 @@
 -- Demand 1, whole: 'Any bytes, any numbers, any time: every entry point answers ..'. 'Each refusal is one of the ten in
--- document 01 .., given exactly when its condition is the first that holds in the order they are tried .., and it
--- changes no byte that was lent.'
+-- document 01 or one that a request in document 02 adds, given exactly when its condition is the first that holds in
+-- the order they are tried (by number, save where a request says otherwise), and it changes no byte that was lent.'
 --
 -- Demand1 : demand 1 for the six calls, for looking at a profile's numbers and for the small program, for all numbers
 --           and bytes. Shown in proofs/Demand1.antt: demand-1

@@ -3,7 +3,7 @@
 -- ones (Bundle.antt). Field 01 takes 9 bytes in edition 1 and 10 in edition 2, field 02 takes 3+m, so that the fields
 -- 03, of 11+S bytes each, start at 12+m or at 13+m: in a bundle at 19 or at 20.
 --
--- byEdition p one two                 : `one` in edition 1, `two` in edition 2
+-- byEdition p one two                 : `one` in edition 1, `two` in edition 2, for an accepted profile
 -- fieldStart p m i                    : where the field 03 of strip i starts, from 0
 -- Formed p m P b                      : b has the length, the tags and the field lengths of a message with P places
 -- Headed p m content b                : its fields 01 and 02 have the content that is wanted
@@ -51,7 +51,7 @@ pub record Formed (p : Profile) (m P : ℕ) (b : List ℕ) : Type 0 where
 pub record Headed (p : Profile) (m : ℕ) (content b : List ℕ) : Type 0 where
   -- 'n, k, A, t, S in two bytes', and 'a last byte, edition 2'
   pub field-01 : slice b 3 (byEdition p 6 7)
-      ≡ p .n ∷ p .k ∷ p .a ∷ p .t ∷ (twoBytes (p .s) ++ byEdition p [] (p .edition ∷ []))
+      ≡ p .n ∷ p .k ∷ p .a ∷ p .t ∷ (twoBytes (p .s) ++ byEdition p [] (2 ∷ []))
   pub field-02 : slice b (byEdition p 12 13) m ≡ content
 
 -- 'node, row, scenario number, strip', and the run 'after the scenario number': what a field 03 says of its strip, past

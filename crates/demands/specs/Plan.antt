@@ -7,15 +7,17 @@
 -- PlannedPlaces p f qs : the places qs are distinct places of the array, none on f, and their number is the formula's
 -- Demand3Places        : so they are over any walk that goes over each candidate once              demand-3-places
 -- Demand3Walk          : each edition's walk is one such, and `planned` is the plan over it         demand-3-walk
--- distanceFrom n f j   : how far node j is from the node after f, rising and wrapping past n-1 to 0
--- WalkRises p f        : step 1 rises, and so do steps 2 and 3 in edition 1; in edition 2 they rise in this distance
--- Demand3Order         : so it is for every dead drive                                             demand-3-order
+-- distanceAfter n f j  : how far node j is from the node after f, rising and wrapping past n-1 to 0
+-- WalkRises p f w      : step 1 of the walk w rises, and so do steps 2 and 3 in edition 1; in edition 2 they rise in
+--                        this distance
+-- Demand3Order         : each edition's walk does                                                  demand-3-order
+-- OneWalk              : a complete walk that does gives the plan: there is no other               one-walk
 -- NamedPlaces p f x    : what planning the rebuild of node f into x leaves and answers
 -- Demand3Plan          : where planning is not refused, it names the planned places                demand-3-plan
 -- Shown in proofs/Plan.antt, under the name beside each.
 --
--- `planOver` in document/specs/Plan.antt is the list of the steps, over a walk: the nodes that each step goes over. A
--- walk that goes over each candidate once, in an order that rises, is fixed by that: nobody has to believe `walkOf`.
+-- `planOver` in document/specs/Plan.antt is the list of the steps, over a walk: the nodes that each step goes over.
+-- `OneWalk` says that nobody has to believe `walkOf`.
 use mathlib.Core.Path.{_≡_}
 use mathlib.Core.Logic.{_≢_}
 use mathlib.Core.List.{List, [], _∷_, _++_}
@@ -68,21 +70,27 @@ Demand3Walk =
     (p : Profile) (f : Node) → f .0 < p .n
     → Complete (p .n) (p .a) f (walkOf p f) × (planned p f ≡ planOver (p .a) (p .k) f (walkOf p f))
 
-abbrev pub distanceFrom : ℕ → Node → ℕ → ℕ
-distanceFrom n f j = (j + n - (f .0 + 1)) % n
+abbrev pub distanceAfter : ℕ → Node → ℕ → ℕ
+distanceAfter n f j = (j + n - (f .0 + 1)) % n
 
-pub record WalkRises (p : Profile) (f : Node) : Type 0 where
+pub record WalkRises (p : Profile) (f : Node) (w : Walk) : Type 0 where
   -- 1. '.. by rising node'; K6: 'Step 1 stays.'
-  pub own : Rises (λ j. j) (walkOf p f .own)
+  pub own : Rises (λ j. j) (w .own)
   -- 2., 3. 'rising'; K6: 'Edition 1 stays for the archive.'
-  pub edition-1 : p .edition ≡ 1 → Rises (λ j. j) (walkOf p f .diagonal) × Rises (λ j. j) (walkOf p f .off-diagonal)
+  pub edition-1 : p .edition ≡ 1 → Rises (λ j. j) (w .diagonal) × Rises (λ j. j) (w .off-diagonal)
   -- K6: 'Edition 2 walks the candidates of steps 2 and 3 from the node after the lost one, rising and wrapping past n-1
   -- to 0, each step on its own'
   pub edition-2 : p .edition ≡ 2
-      → Rises (distanceFrom (p .n) f) (walkOf p f .diagonal) × Rises (distanceFrom (p .n) f) (walkOf p f .off-diagonal)
+      → Rises (distanceAfter (p .n) f) (w .diagonal) × Rises (distanceAfter (p .n) f) (w .off-diagonal)
 
 abbrev pub Demand3Order : Type 0
-Demand3Order = (p : Profile) (f : Node) → f .0 < p .n → WalkRises p f
+Demand3Order = (p : Profile) (f : Node) → f .0 < p .n → WalkRises p f (walkOf p f)
+
+-- So the documents' sentences alone fix the plan.
+abbrev pub OneWalk : Type 0
+OneWalk =
+    (p : Profile) → Accepted p → (f : Node) → f .0 < p .n → (w : Walk) → Complete (p .n) (p .a) f w → WalkRises p f w
+    → planned p f ≡ planOver (p .a) (p .k) f w
 
 module _ (p : Numbers) (f : ℕ) (x : List ℕ) where
   abbrev plan : List Place

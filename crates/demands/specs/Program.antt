@@ -60,7 +60,7 @@ module _ (input : List ℕ) where
     -- the lent column has the right length
     pub never-five : FirstOf table BufferLength → ⊥
     -- K6: 'the small program stays with edition 1'
-    pub edition-1 : numbers .edition ≡ 1
+    pub first-edition : numbers .edition ≡ 1
     pub never-thirteen : FirstOf table Edition → ⊥
 
 abbrev pub Demand1Program : Type 1

@@ -67,7 +67,7 @@ Demand1Read p nodes x y =
     Demand1For p (λ p. readTests p nodes x y) (λ p. readSentences p nodes x y) ((4, 0) ∷ (5, 0) ∷ (10, 0) ∷ []) y
     (readOf p nodes x y)
 
--- None of the refusals 1 to 5 applies.
+-- None of the refusals 1 to 5 and 13 applies.
 pub record InDueForm (p : Numbers) (nodes x y : List ℕ) : Type 0 where
   pub profile : Accepted (profileOf p)
   pub list : Rising (p .n) (p .k) nodes

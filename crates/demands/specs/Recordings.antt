@@ -11,7 +11,7 @@
 -- TogetherPasses              : it is not refused where all strips are of the wanted recording      together-passes
 -- OldForm b                   : field 02 of b opens as document 01 has it, or b has the length that document 01 gives a
 --                               bundle for what is wanted
--- OldRefused                  : past 1 to 5 it is refused with 6                                    old-refused
+-- OldRefused                  : past 1 to 5 and 13 it is refused with 6                             old-refused
 -- Shown in proofs/Recordings.antt, under the name beside each.
 --
 -- In all of them p are the wanted numbers, f is the wanted node, r or w a recording, b a bundle, y what the buffer lent
@@ -38,7 +38,7 @@ module _ (p : Numbers) (f : ℕ) where
   abbrev plan : List Place
   plan = planned (profileOf p) (record { 0 = f })
 
-  -- 'a bundle 19 + P(11+S)': the head takes 19 bytes, in edition 2 20, each field 03 takes 11+S.
+  -- 'a bundle 19 + P(11+S)': the head takes 19 bytes, or 20 in edition 2, each field 03 takes 11+S.
   abbrev headBytes : ℕ
   headBytes = byEdition (profileOf p) 19 20
 
@@ -79,7 +79,7 @@ module _ (p : Numbers) (f : ℕ) where
   abbrev pub OldForm : List ℕ → Type 0
   OldForm b = (slice b 9 3 ≡ 2 ∷ 0 ∷ 5 ∷ []) ⊎ (length b ≡ 17 + length plan * (9 + p .s))
 
-  -- Past 1 to 5: the profile is accepted, the node is one of it, and the column has its AS bytes.
+  -- Past 1 to 5 and 13: the profile is accepted, the node is one of it, and the column has its AS bytes.
   abbrev pub OldRefused : Type 0
   OldRefused =
       Accepted (profileOf p) → f < p .n → (r : Recording) (b y : List ℕ) → length y ≡ p .a * p .s → OldForm b

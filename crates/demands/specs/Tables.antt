@@ -1,8 +1,8 @@
--- What a table of refusals is, and demand 1 for any call: 'Each refusal is one of the ten in document 01 .., given
--- exactly when its condition is the first that holds in the order they are tried .., and it changes no byte that was
--- lent.'
+-- What a table of refusals is, and demand 1 for any call: 'Each refusal is one of the ten in document 01 or one that a
+-- request in document 02 adds, given exactly when its condition is the first that holds in the order they are tried (by
+-- number, save where a request says otherwise), and it changes no byte that was lent.'
 --
--- Sentence                            : a refusal, and what document 01's table says of it, for one call
+-- Sentence                            : a refusal, and what the documents say of it, for one call
 -- FirstOf table r                     : r is the first refusal in the table whose condition holds
 -- NoneApplies table                   : no condition in the table holds
 -- RefusesExactly table before outcome : a call with this outcome, lent the bytes `before`, refuses as the table says,
@@ -12,7 +12,7 @@
 -- numberIn s                          : the number of a line, and the index that it comes with
 -- Numbered table lines                : the table's lines have these numbers, and come with these indices
 -- Demand1Of tests table lines before outcome : a call with these tests and this outcome refuses as its table says,
---                                       which has document 01's numbers
+--                                       which has the documents' numbers
 --
 -- A call has two tables. The sentences here are the one to be believed; the tests in document/specs compute, and are
 -- shown to decide the sentences.
@@ -38,7 +38,7 @@ pub data FirstOf : List Sentence → Refusal → Type 1 where
   here : {s : Sentence} {table : List Sentence} → s .says → FirstOf (s ∷ table) (s .refusal)
   later : {s : Sentence} {table : List Sentence} {r : Refusal} → (s .says → ⊥) → FirstOf table r → FirstOf (s ∷ table) r
 
--- 'The lowest number that applies is the answer': here none does
+-- 'On success the answer is 0': no condition holds
 pub data NoneApplies : List Sentence → Type 1 where
   empty : NoneApplies []
   nor : {s : Sentence} {table : List Sentence} → (s .says → ⊥) → NoneApplies table → NoneApplies (s ∷ table)
@@ -59,7 +59,7 @@ pub data Decided : List Test → List Sentence → Type 1 where
   line : {test : Test} {s : Sentence} {tests : List Test} {table : List Sentence} → test .refusal ≡ s .refusal
       → Decides (test .holds) (s .says) → ((s .says → ⊥) → Decided tests table) → Decided (test ∷ tests) (s ∷ table)
 
--- 'by number': the lines of a table have these numbers, each with the index that it comes with: '8 and 9 come with the
+-- 'Refusals by number': the lines of a table have these numbers, each with the index that it comes with: '8 and 9 come with the
 -- index of the first such strip, from 0; the others with 0'.
 abbrev pub numberIn : Sentence → ℕ × ℕ
 numberIn s = (numberOf (s .refusal), indexOf (s .refusal))

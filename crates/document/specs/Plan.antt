@@ -6,7 +6,7 @@
 -- isOffDiagonal A f j : node j lies in another group, at another local column
 -- rowAt A f j         : the place of node j, row c
 -- pairsAt A f js      : for each of the nodes js its row c, then the partner of that place
--- walkStart p f       : the node at which steps 2 and 3 begin to walk
+-- walkStart p f       : the node at which steps 2 and 3 begin to walk; n stands for 0
 -- walked p f P        : the nodes for which P holds, in the order of this walk
 -- firstStep p f       : the places of step 1
 -- secondStep p f      : the places of step 2

@@ -1,4 +1,4 @@
-// The types that the crates built on this one share, in document 01's words, and the profile's constructor that
+// The types that the crates built on this one share, in the documents' words, and the profile's constructor that
 // refuses.
 ghost use mathlib.Core.Path.{_≡_};
 ghost use Prim.Native.Nat.{_/_, _%_, _<_};

@@ -1,16 +1,28 @@
--- The laws of `along` and `around`: their first entries, that `around` lists each number once, and what rises in it.
+-- The laws of `along` and `around`: their first entries, that `around` lists each number once, and what rises in it; and
+-- that lists with the same entries which rise alike are one.
 use mathlib.Core.Path.{_≡_, refl, sym, ap, ap₂, subst₂, _∙_}
+use mathlib.Core.Logic.{_⊎_, inl, inr}
 use mathlib.Core.Bool.{Bool, true, false, cond}
 use mathlib.Core.List.{List, [], _∷_, _++_, map}
 use Prim.Native.Nat.{ℕ, zero, suc, _+_, _-_, _%_, _≤_, _<_}
 use native.Mathlib.Nat.{zero-add, mod-lt, mod-eq-of-lt, mod-add-mod, add-mod-mod, add-mod-right}
+use native.Mathlib.Decide.{ℕ-discrete}
 use native.Mathlib.Omega.{arith}
 use lib.ListN.{length, take, length-map}
 use Rattle.lists.specs.Listed.{rising, along, around}
-use Rattle.lists.specs.Each.{Each, none, also, Rises, ends, less, ListsOnce}
+use Rattle.lists.specs.Each.{Each, none, also, Rises, ends, less, occurrences, ListsOnce}
 use Rattle.lists.proofs.Each.{each-append, each-map, each-image, each-both}
 use Rattle.lists.proofs.Rising.{rising-next, rising-ext, rising-front}
-use Rattle.lists.proofs.Once.{once-each, rising-once, along-once}
+use Rattle.lists.proofs.Once.{
+  occurrences-none,
+  occurrences-here,
+  occurrences-other,
+  occurrences-tail,
+  each-occurs,
+  once-each,
+  rising-once,
+  along-once,
+}
 
 -- ---- the first entries
 map-append : (g : ℕ → ℕ) (xs ys : List ℕ) → map g (xs ++ ys) ≡ map g xs ++ map g ys
@@ -113,3 +125,41 @@ around-rises n b P h =
   where
     passing : ℕ → Bool
     passing i = P ((b + i) % n)
+
+-- ---- lists with the same entries that rise alike
+-- an entry is the first one, or comes after it
+first-or-later : {d : ℕ → ℕ} {x y : ℕ} {ys : List ℕ} → Each (λ z. d y < d z) ys → 0 < occurrences x (y ∷ ys)
+    → (x ≡ y) ⊎ (d y < d x)
+first-or-later {d} {x} {y} {ys} above stands = go (ℕ-discrete x y)
+  where
+    go : Dec (x ≡ y) → (x ≡ y) ⊎ (d y < d x)
+    go (yes e) = inl e
+    go (no e) = inr (each-occurs above (omega (arith, stands, occurrences-other x y ys e)))
+
+same-first : (d : ℕ → ℕ) {x y : ℕ} → (x ≡ y) ⊎ (d y < d x) → (y ≡ x) ⊎ (d x < d y) → x ≡ y
+same-first d (inl e) later = e
+same-first d (inr l) (inl e) = sym e
+same-first d (inr l) (inr m) = absurd (omega arith)
+
+rises-one : {d : ℕ → ℕ} {xs ys : List ℕ} → Rises d xs → Rises d ys
+    → ((j : ℕ) → occurrences j xs ≡ occurrences j ys) → xs ≡ ys
+rises-one ends ends same = refl
+rises-one ends (less {x = y} {xs = ys} above rest) same =
+    absurd (omega (arith, occurrences-none y, same y, occurrences-here y ys))
+rises-one (less {x = x} {xs = xs} above rest) ends same =
+    absurd (omega (arith, occurrences-none x, same x, occurrences-here x xs))
+rises-one {d} (less {x = x} {xs = xs} above rest) (less {x = y} {xs = ys} high others) same =
+    let first : x ≡ y =
+    same-first d (first-or-later high (omega (arith, same x, occurrences-here x xs)))
+    (first-or-later above (omega (arith, same y, occurrences-here y ys))) in
+    ap₂ (λ (u : ℕ) (l : List ℕ). u ∷ l) first (rises-one rest others (tails first))
+  where
+    tails : x ≡ y → (j : ℕ) → occurrences j xs ≡ occurrences j ys
+    tails first j =
+        let both : occurrences j (x ∷ xs) ≡ occurrences j (x ∷ ys) =
+        same j ∙ ap (λ (u : ℕ). occurrences j (u ∷ ys)) (sym first) in
+        occurrences-tail j x xs ys both
+
+pub once-one : (n : ℕ) (P : ℕ → Bool) {d : ℕ → ℕ} {xs ys : List ℕ} → ListsOnce n P xs → ListsOnce n P ys
+    → Rises d xs → Rises d ys → xs ≡ ys
+once-one n P once too u v = rises-one u v (λ j. once j ∙ sym (too j))

@@ -17,7 +17,11 @@ use Rattle.lists.proofs.Each.{each-map, each-image}
 use Rattle.lists.proofs.Rising.{count-next, count-one}
 
 -- ---- how often a number stands in a list
-occurrences-here : (j : ℕ) (xs : List ℕ) → occurrences j (j ∷ xs) ≡ suc (occurrences j xs)
+pub occurrences-none : (j : ℕ) → occurrences j [] ≡ 0
+unfolding occurrences
+occurrences-none j = refl
+
+pub occurrences-here : (j : ℕ) (xs : List ℕ) → occurrences j (j ∷ xs) ≡ suc (occurrences j xs)
 unfolding occurrences
 occurrences-here j xs = rw (eq-eqb j j refl) (omega arith)
 
@@ -25,9 +29,15 @@ occurrences-later : (j x : ℕ) (xs : List ℕ) → occurrences j xs ≤ occurre
 unfolding occurrences
 occurrences-later j x xs = omega arith
 
-occurrences-other : (j x : ℕ) (xs : List ℕ) → j ≢ x → occurrences j (x ∷ xs) ≡ occurrences j xs
+pub occurrences-other : (j x : ℕ) (xs : List ℕ) → j ≢ x → occurrences j (x ∷ xs) ≡ occurrences j xs
 unfolding occurrences
 occurrences-other j x xs h = rw (ne-eqb j x h, zero-add)
+
+-- lists that begin alike
+pub occurrences-tail : (j x : ℕ) (xs ys : List ℕ) → occurrences j (x ∷ xs) ≡ occurrences j (x ∷ ys)
+    → occurrences j xs ≡ occurrences j ys
+unfolding occurrences
+occurrences-tail j x xs ys e = omega arith
 
 occurrences-append : (j : ℕ) (xs ys : List ℕ) → occurrences j (xs ++ ys) ≡ occurrences j xs + occurrences j ys
 unfolding occurrences
@@ -35,6 +45,16 @@ occurrences-append j [] ys = sym (zero-add (occurrences j ys))
 occurrences-append j (x ∷ xs) ys =
     ap (λ (m : ℕ). cond (eqb j x) 1 0 + m) (occurrences-append j xs ys)
     ∙ sym (add-assoc (cond (eqb j x) 1 0) (occurrences j xs) (occurrences j ys))
+
+-- what holds of each entry holds of a number that stands in the list
+pub each-occurs : {R : ℕ → Type 0} {j : ℕ} {xs : List ℕ} → Each R xs → 0 < occurrences j xs → R j
+unfolding occurrences
+each-occurs none h = absurd (not-suc-le-zero h)
+each-occurs {R} {j} (also {x = x} {xs = xs} r rs) h = go (ℕ-discrete j x) (each-occurs rs)
+  where
+    go : Dec (j ≡ x) → (0 < occurrences j xs → R j) → R j
+    go (yes e) later = rw e r
+    go (no e) later = later (omega (arith, h, occurrences-other j x xs e))
 
 -- what holds of each number that stands in a list
 members : {R : ℕ → Type 0} (xs : List ℕ) → ((j : ℕ) → 0 < occurrences j xs → R j) → Each R xs

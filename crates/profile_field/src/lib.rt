@@ -12,7 +12,7 @@ use fields::OPENING;
 // How many bytes the longest content takes.
 pub const MAX_CONTENT: usize = 7;
 
-// How long the content is: six bytes in edition 1, and one more, the edition, from edition 2 on.
+// How long the content is: six bytes in edition 1, and one more, the edition, in edition 2.
 fn content_length(p: Profile) -> usize
     ensures { λ r. ⌜ r ≡ profileContentLength p ⌝ }
 {
@@ -22,7 +22,7 @@ fn content_length(p: Profile) -> usize
     MAX_CONTENT
 }
 
-// What the field opens with, its tag and its length: 'the three bytes 01 00 06', from edition 2 on 01 00 07.
+// What the field opens with, its tag and its length: 'the three bytes 01 00 06', in edition 2 01 00 07.
 fn opening_bytes(p: Profile) -> [u8; OPENING]
     ensures { λ r. ⌜ r ≡ opening 1 (profileContentLength p) ⌝ }
 {

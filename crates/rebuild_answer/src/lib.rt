@@ -19,8 +19,8 @@ use document::Refusal;
 // The bytes before the bundle: n, k, A, t, S in two, wanted node, wanted scenario in four, wanted run in two.
 const WANTED: usize = 13;
 
-// As much of the input as is needed: one byte more than the head and the longest bundle. A longer input answers as its
-// first ROOM bytes do: LongerInput of specs/Room.antt.
+// As much of the input as is needed: one byte more than the head and the longest bundle of any edition. A longer input
+// answers as its first ROOM bytes do: LongerInput of specs/Room.antt.
 pub const ROOM: usize = WANTED + bundle::LONGEST + 1;
 
 // The longest column.

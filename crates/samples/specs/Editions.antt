@@ -1,8 +1,9 @@
--- K6's plans and its refusal: what the definitions give, and what is said, shown by one claim, as in Marked.antt.
+-- K6's plans and its refusal, worked out by hand from its sentences: what the definitions give and what is due, shown by
+-- one claim, as in Marked.antt. With (9,4,3) the editions read at other nodes, with the others in another order.
 --
 -- numbers n k a edition : the numbers (n,k,A), t = 2, S = 1, in an edition
 -- plans                 : plans that tell the editions apart, and editions that are none
--- plans-shown           : what they give is what is said
+-- plans-shown           : what they give is what is due
 use mathlib.Core.Path.{_≡_, refl}
 use mathlib.Core.List.{List, [], _∷_, map}
 use Prim.Native.Nat.{ℕ}
@@ -48,6 +49,14 @@ plans =
       gives = outcome (planOf (numbers 9 6 3 2) 4 (lent 24));
       says = 0 ∷ 12
           ∷ 3 ∷ 1 ∷ 5 ∷ 1 ∷ 7 ∷ 1 ∷ 1 ∷ 1 ∷ 6 ∷ 1 ∷ 7 ∷ 0 ∷ 8 ∷ 1 ∷ 7 ∷ 2 ∷ 0 ∷ 1 ∷ 1 ∷ 0 ∷ 2 ∷ 1 ∷ 1 ∷ 2 ∷ [];
+    }
+    ∷ record {
+      gives = outcome (planOf (numbers 9 4 3 1) 4 (lent 16));
+      says = 0 ∷ 8 ∷ 3 ∷ 1 ∷ 5 ∷ 1 ∷ 1 ∷ 1 ∷ 7 ∷ 1 ∷ 0 ∷ 1 ∷ 1 ∷ 0 ∷ 2 ∷ 1 ∷ 1 ∷ 2 ∷ [];
+    }
+    ∷ record {
+      gives = outcome (planOf (numbers 9 4 3 2) 4 (lent 16));
+      says = 0 ∷ 8 ∷ 3 ∷ 1 ∷ 5 ∷ 1 ∷ 7 ∷ 1 ∷ 1 ∷ 1 ∷ 6 ∷ 1 ∷ 7 ∷ 0 ∷ 8 ∷ 1 ∷ 7 ∷ 2 ∷ [];
     }
     ∷ record { gives = outcome (planOf (numbers 6 2 2 0) 9 (lent 1)); says = 13 ∷ 0 ∷ 0xFF ∷ [] }
     ∷ record { gives = outcome (planOf (numbers 6 2 2 3) 9 (lent 1)); says = 13 ∷ 0 ∷ 0xFF ∷ [] }
