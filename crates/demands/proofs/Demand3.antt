@@ -16,6 +16,7 @@ use Rattle.demands.proofs.Rebuild.{
   whole-bundle,
 }
 use Rattle.demands.proofs.Bundle.{demand-3-write, strips-at}
+use Rattle.demands.proofs.Editions.{editions-aside, either-rebuilds}
 use Rattle.demands.proofs.Recordings.{one-recording, mixed-refused, together-passes, old-refused}
 
 pub demand-3 : Demand3
@@ -33,6 +34,8 @@ demand-3 = record {
   same-column = same-column;
   cut-for-wanted = cut-for-wanted;
   other-edition = other-edition;
+  editions-aside = editions-aside;
+  either-rebuilds = either-rebuilds;
   same-answer = same-answer;
   write = demand-3-write;
   strips-at = strips-at;

@@ -9,6 +9,7 @@ pub mod Whole
 pub mod Bundle
 pub mod Rebuild
 pub mod Recordings
+pub mod Editions
 pub mod Reading
 pub mod Results
 pub mod Survey

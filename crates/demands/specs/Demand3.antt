@@ -20,6 +20,7 @@ use Rattle.demands.specs.Rebuild.{
   OtherEdition,
   WholeBundle,
 }
+use Rattle.demands.specs.Editions.{EditionsAside, EitherRebuilds}
 use Rattle.demands.specs.Recordings.{OneRecording, MixedRefused, TogetherPasses, OldRefused}
 
 pub record Demand3 : Type 0 where
@@ -54,8 +55,10 @@ pub record Demand3 : Type 0 where
   pub cut-column : (p : Numbers) (f : ℕ) → CutColumn p f
   pub cut-rebuilds : (p : Numbers) (f : ℕ) → CutRebuilds p f
   pub whole-bundle : (p : Numbers) (f : ℕ) → WholeBundle p f
-  -- beyond the demand, K6: '6 and 7 read the edition too.'
+  -- beyond the demand, K6: '6 and 7 read the edition too'; and what the edition leaves alone
   pub other-edition : (p : Numbers) (f : ℕ) → OtherEdition p f
+  pub editions-aside : EditionsAside
+  pub either-rebuilds : EitherRebuilds
   -- beyond the demand, K2: 'A recording is a scenario and a run .. 7 and 9 compare both numbers; old bundles get 6.'
   pub one-recording : (p : Numbers) (f : ℕ) → OneRecording p f
   pub mixed-refused : (p : Numbers) (f : ℕ) → MixedRefused p f

@@ -7,6 +7,7 @@ pub mod Message
 pub mod Bundle
 pub mod Rebuild
 pub mod Recordings
+pub mod Editions
 pub mod Reading
 pub mod Survey
 pub mod Program
