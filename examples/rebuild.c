@@ -70,8 +70,9 @@ int main(void)
     print_strips(bundle);
     answer = whaupfield_rebuild(WHAUPFIELD_PROFILE(p), LOST, SCENARIO, 1, bundle, cut, column, width);
     print_answer("rebuild", answer);
-    printf("column %02X %02X, %s\n", column[0], column[1],
-           memcmp(column, kept, width) == 0 ? "as it was" : "not what it was");
+    if (WHAUPFIELD_NUMBER(answer) == WHAUPFIELD_OK)
+        printf("column %02X %02X, %s\n", column[0], column[1],
+               memcmp(column, kept, width) == 0 ? "as it was" : "not what it was");
 
     answer = whaupfield_rebuild(WHAUPFIELD_PROFILE(p), LOST, SCENARIO, 2, bundle, cut, column, width);
     print_answer("rebuild for run 2", answer);

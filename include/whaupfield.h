@@ -19,10 +19,10 @@
  *
  * The edition says in which order a plan goes over the nodes outside the lost group, and how a bundle begins; arrays,
  * data, readings and surveys are the same in both. Edition 1 begins at node 0, so that low-numbered drives are read
- * most; edition 2 begins at the node after the lost one, rising and wrapping past n-1 to 0, which spreads what is read
- * over the drives (docs/LOAD.md). Both read as many places, and where k is n-a the same ones in another order. A bundle
- * is rebuilt with the edition that it was written with; with the other one it is refused with 6. Use 2 for what is new,
- * and 1 for bundles kept from before.
+ * most where there is a choice; edition 2 begins at the node after the lost one, rising and wrapping past n-1 to 0,
+ * which spreads what is read over the drives. Both read as many places; docs/LOAD.md has where they read other ones. A
+ * bundle is rebuilt with the edition that it was written with; with the other one it is refused with 6. Use 2 for what
+ * is new, and 1 for bundles kept from before and for the small program rebuild_node.
  *
  * A recording is a scenario and a run of it: two runs of one scenario are two recordings, and in one bundle their
  * strips do not pass together. The host gives each run a number of its own. Only a bundle's fields carry a recording:

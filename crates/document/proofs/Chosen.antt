@@ -269,6 +269,6 @@ module _ (p : Profile) (acc : Accepted p) (f : Node) (h : f .0 < p .n) (w : Walk
       (each-pairs A (A>0 p acc) k f (λ j l. (row-within j l, partner-within p acc (rowAt A f j) (row-within j l)))
       (each-right (stepTwo k w) (stepThree k w) nodes-below)))
 
--- over document 01's walk
+-- over the edition's walk
 pub plan-within : (p : Profile) → Accepted p → (f : Node) → f .0 < p .n → Each (Within p) (planned p f)
 plan-within p acc f h = rw planned-over (planned-within p acc f h (walkOf p f) (walk-sound p acc f h))

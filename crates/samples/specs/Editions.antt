@@ -2,7 +2,7 @@
 -- one claim, as in Marked.antt. With (9,4,3) the editions read at other nodes, with the others in another order.
 --
 -- numbers n k a edition : the numbers (n,k,A), t = 2, S = 1, in an edition
--- plans                 : plans that tell the editions apart, and editions that are none
+-- plans                 : plans that tell the editions apart, and numbers that are no edition
 -- plans-shown           : what they give is what is due
 use mathlib.Core.Path.{_≡_, refl}
 use mathlib.Core.List.{List, [], _∷_, map}
