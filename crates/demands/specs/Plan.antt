@@ -6,7 +6,7 @@
 -- Demand1Plan p f x    : planning refuses as they say                                              demand-1-plan
 -- PlannedPlaces p f qs : the places qs are distinct places of the array, none on f, and their number is the formula's
 -- Demand3Places        : so they are over any walk that goes over each candidate once              demand-3-places
--- Demand3Walk          : each edition's walk is one such, and `planned` is the plan over it         demand-3-walk
+-- Demand3Walk          : each edition's walk is one such, and `planned` is the plan over it        demand-3-walk
 -- distanceAfter n f j  : how far node j is from the node after f, rising and wrapping past n-1 to 0
 -- WalkRises p f w      : step 1 of the walk w rises, and so do steps 2 and 3 in edition 1; in edition 2 they rise in
 --                        this distance
