@@ -297,7 +297,8 @@ module _ (p : Profile) (content : List ℕ) (r : Recording) (qs : List Place) (b
       λ i l. numbers-read p m b i r (w .is-fresh i l) in
       search line-by-line depth 20
 
-  module _ (acc : Accepted p) (refuted : (q : Refusal) → Holds (messageSentences p (length content) content r qs b) q → ⊥) where
+  module _ (acc : Accepted p)
+      (refuted : (q : Refusal) → Holds (messageSentences p (length content) content r qs b) q → ⊥) where
     pub refuted-wanted : AsWanted
     unfolding messageSentences stripSentences
     refuted-wanted = record {

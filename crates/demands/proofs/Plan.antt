@@ -111,7 +111,8 @@ demand-3-order p f h = record {
 
 -- two walks over the same candidates that rise alike are one
 pub one-walk : OneWalk
-one-walk p acc f h w complete rises = planned-over p f ∙ ap (planOver (p .a) (p .k) f) (same (ℕ-discrete (p .edition) 1))
+one-walk p acc f h w complete rises =
+    planned-over p f ∙ ap (planOver (p .a) (p .k) f) (same (ℕ-discrete (p .edition) 1))
   where
     here : Complete (p .n) (p .a) f (walkOf p f)
     here = walk-complete p f h

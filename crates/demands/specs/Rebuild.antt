@@ -154,8 +154,8 @@ module _ (p : Numbers) (f : ℕ) where
       → CutFrom numbers node x recording b → NotRefused p f r b y
       → (numbers ≡ p) × (node ≡ f) × (InSixBytes recording → InSixBytes r → recording ≡ r)
 
-  -- K6: '6 and 7 read the edition too': past 1 to 5 and 13, a bundle cut in another edition, whatever else it is cut for, is
-  -- refused with 6.
+  -- K6: '6 and 7 read the edition too': past 1 to 5 and 13, a bundle cut in another edition, whatever else it is cut
+  -- for, is refused with 6.
   abbrev pub OtherEdition : Type 0
   OtherEdition =
       (numbers : Numbers) (node : ℕ) (x : List ℕ) (recording r : Recording) (b y : List ℕ)

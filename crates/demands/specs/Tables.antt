@@ -59,8 +59,8 @@ pub data Decided : List Test → List Sentence → Type 1 where
   line : {test : Test} {s : Sentence} {tests : List Test} {table : List Sentence} → test .refusal ≡ s .refusal
       → Decides (test .holds) (s .says) → ((s .says → ⊥) → Decided tests table) → Decided (test ∷ tests) (s ∷ table)
 
--- 'Refusals by number': the lines of a table have these numbers, each with the index that it comes with: '8 and 9 come with the
--- index of the first such strip, from 0; the others with 0'.
+-- 'Refusals by number': the lines of a table have these numbers, each with the index that it comes with: '8 and 9 come
+-- with the index of the first such strip, from 0; the others with 0'.
 abbrev pub numberIn : Sentence → ℕ × ℕ
 numberIn s = (numberOf (s .refusal), indexOf (s .refusal))
 

@@ -1,9 +1,9 @@
--- The laws of `along` and `around`: their first entries, that `around` lists each number once, and what rises in it; and
--- that lists with the same entries which rise alike are one.
+-- The laws of `along` and `around`: their first entries, that `around` lists each number once, and what rises in it;
+-- and that lists with the same entries which rise alike are one.
 use mathlib.Core.Path.{_≡_, refl, sym, ap, ap₂, subst₂, _∙_}
 use mathlib.Core.Logic.{_⊎_, inl, inr}
 use mathlib.Core.Bool.{Bool, true, false, cond}
-use mathlib.Core.List.{List, [], _∷_, _++_, map}
+use mathlib.Core.List.{List, [], _∷_, _++_, map, map-append}
 use Prim.Native.Nat.{ℕ, zero, suc, _+_, _-_, _%_, _≤_, _<_}
 use native.Mathlib.Nat.{zero-add, mod-lt, mod-eq-of-lt, mod-add-mod, add-mod-mod, add-mod-right}
 use native.Mathlib.Decide.{ℕ-discrete}
@@ -25,10 +25,6 @@ use Rattle.lists.proofs.Once.{
 }
 
 -- ---- the first entries
-map-append : (g : ℕ → ℕ) (xs ys : List ℕ) → map g (xs ++ ys) ≡ map g xs ++ map g ys
-map-append g [] ys = refl
-map-append g (x ∷ xs) ys = ap (λ (l : List ℕ). g x ∷ l) (map-append g xs ys)
-
 map-take : (g : ℕ → ℕ) (k : ℕ) (xs : List ℕ) → take k (map g xs) ≡ map g (take k xs)
 map-take g zero xs = refl
 map-take g (suc k) [] = refl
@@ -61,7 +57,7 @@ module _ (n b : ℕ) (h : b ≤ n) where
   abbrev distance : ℕ → ℕ
   distance j = (j + n - b) % n
 
-  pub around-distance : (i : ℕ) → i < n → distance ((b + i) % n) ≡ i
+  around-distance : (i : ℕ) → i < n → distance ((b + i) % n) ≡ i
   around-distance i l =
       let left : (b + i) % n + n - b ≡ (b + i) % n + (n - b) = omega arith in
       let whole : b + i + (n - b) ≡ i + n = omega arith in

@@ -1,5 +1,5 @@
--- K6's plans and its refusal, worked out by hand from its sentences: what the definitions give and what is due, shown by
--- one claim, as in Marked.antt. With (9,4,3) the editions read at other nodes, with the others in another order.
+-- K6's plans and its refusal, worked out by hand from its sentences: what the definitions give and what is due, shown
+-- by one claim, as in Marked.antt. With (9,4,3) the editions read at other nodes, with the others in another order.
 --
 -- numbers n k a edition : the numbers (n,k,A), t = 2, S = 1, in an edition
 -- plans                 : plans that tell the editions apart, and numbers that are no edition
