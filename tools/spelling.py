@@ -93,8 +93,11 @@ def turned(path, text, new, goals, found):
 
     def word(m):
         n = m[0]
-        after_dot = m.start() and text[m.start() - 1] == "."
-        if n not in new or n in foreign or (within and after_dot and "-" in n):
+        after_dot = m.start() and m.string[m.start() - 1] == "."
+        if n not in new or n in foreign:
+            return n
+        # In a function's own files a dot may stand before what a check makes; a field of specs/ is turned all the same.
+        if within and after_dot and "-" in n and is_lemma(n, found.get(n, [])):
             return n
         # A lemma that makes room for a definition had a name that src/ may have too.
         if not is_old(n) and (after_dot or "/proofs/" not in path):

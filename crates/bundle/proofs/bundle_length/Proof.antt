@@ -19,7 +19,7 @@ returns : tie.Need-returns
 unfolding strip_field_start
 returns c =
     let e = c.before in
-    c.strip_field.ensures ∙ ap (strip_field_start e.before.args.p lost_content_length) e.price.ensures
+    c.strip-field.ensures ∙ ap (strip_field_start e.before.args.p lost_content_length) e.price.ensures
 
 pub bundle-length-spec : {M : Type 1} → statement M
 bundle-length-spec = tie.close (tie.spec (λ c κs. search rules) strip-field-requires returns)

@@ -25,9 +25,9 @@ module _ (c : tie.After-bundle-length) where
   node = c.before.before.before.before
 
   -- the length that was worked out is the bundle's
-  size : c.bundle_length_lem.result ≡ bundle_length (start node).args.p (start node).args.f
+  size : c.bundle-length.result ≡ bundle_length (start node).args.p (start node).args.f
   size =
-      c.bundle_length_lem.ensures
+      c.bundle-length.ensures
       ∙ sym (ap (message_length (start node).args.p lost_content_length)
       (planned_price _ (start node).pre _ (known node)))
 

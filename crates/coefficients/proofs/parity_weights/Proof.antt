@@ -6,7 +6,7 @@ use borrow.Author.Rules.{rules}
 use lib.ListN.{length, take}
 use Rattle.coefficients.specs.Weights.{Different, Outside, denominators_of, weights_of}
 use Rattle.coefficients.specs.Data.{data_nodes}
-use Rattle.coefficients.proofs.Data.{data_nodes_lem, data_length, data_different, parity_outside, data-weights}
+use Rattle.coefficients.proofs.Data.{data_nodes_lem, data_length, data_different, parity_outside, data_weights_lem}
 use Rattle.coefficients.proofs.parity_weights.Statement.{statement}
 use Rattle.coefficients.proofs.parity_weights.Tie as tie
 

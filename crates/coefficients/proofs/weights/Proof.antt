@@ -67,7 +67,7 @@ returns-2 c =
     let q = c.before.before.before in
     let d = q.before.before.before.before in
     let s = d.before.before.before.before.before.before in
-    q.weights_from_lem.ensures.0 ∙ ap₂ weights_from (lent d) s.requires.1.1.0
+    q.weights-from.ensures.0 ∙ ap₂ weights_from (lent d) s.requires.1.1.0
     ∙ weights_from_lem s.args.nodes.now (small d) s.requires.0 s.args.at (omega arith) s.requires.1.0 (some d)
 
 pub weights-spec : {M : Type 1} → statement M

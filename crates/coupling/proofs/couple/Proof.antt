@@ -7,7 +7,7 @@ use borrow.Author.Rules.{rules}
 use lib.ListN.{get_or}
 use Rattle.document.proofs.Bounds.{strips_bound}
 use Rattle.coupling.specs.Pairs.{coupled_byte}
-use Rattle.coupling.proofs.Pairs.{Mixed, none-changed, next_changed}
+use Rattle.coupling.proofs.Pairs.{Mixed, none_changed, next_changed}
 use Rattle.coupling.proofs.Coupled.{coupled_stays, all_coupled}
 use Rattle.coupling.proofs.couple.Statement.{statement}
 use Rattle.coupling.proofs.couple.Tie as tie

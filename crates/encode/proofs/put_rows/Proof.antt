@@ -10,10 +10,10 @@ use lib.Seq.{length-take-le}
 use Rattle.strips.proofs.Strip.{strip_all}
 use Rattle.document.specs.declared.Profile.{Profile}
 use Rattle.document.specs.Encoding.{base_at, laid_out, plain}
-use Rattle.document.proofs.Bounds.{room, column-bound, array_bound}
+use Rattle.document.proofs.Bounds.{room, column_bound, array_bound}
 use Rattle.coefficients.specs.Data.{data_nodes, data_denominators}
 use Rattle.lists.proofs.Lent.{front_fits, front}
-use Rattle.coefficients.proofs.Lagrange.{denominators-length}
+use Rattle.coefficients.proofs.Lagrange.{denominators_length}
 use Rattle.coefficients.proofs.Data.{data_length}
 use Rattle.encode.proofs.Rows.{data_columns, first_columns, next_column, all_columns}
 use Rattle.encode.proofs.put_rows.Statement.{statement}

@@ -17,7 +17,7 @@ returns c =
     c.same_at.ensures
     ∙ ap (λ (size : List ℕ). same (slice s.args.b.now s.args.at 3)
     (s.args.tag ∷ get_or size 0 0 ∷ get_or size 1 0 ∷ []))
-    t.two_bytes_lem.ensures
+    t.two_bytes.ensures
 
 pub opens-spec : {M : Type 1} → statement M
 opens-spec =

@@ -15,7 +15,7 @@ returns c =
     let w = c.before.before in
     let t = w.before.before.before in
     let tag = t.before.before.args.tag in
-    wrote_same (ap (λ (s : List ℕ). tag ∷ get_or s 0 0 ∷ get_or s 1 0 ∷ []) t.two_bytes_lem.ensures) w.put-bytes.ensures
+    wrote_same (ap (λ (s : List ℕ). tag ∷ get_or s 0 0 ∷ get_or s 1 0 ∷ []) t.two_bytes.ensures) w.put-bytes.ensures
 
 pub put-opening-spec : {M : Type 1} → statement M
 put-opening-spec =

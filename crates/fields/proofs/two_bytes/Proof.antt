@@ -2,8 +2,8 @@
 use mathlib.Core.Path.{refl}
 use borrow.Author.Rules.{rules}
 use Rattle.fields.specs.Fields.{two_bytes}
-use Rattle.fields.proofs.two_bytes_lem.Statement.{statement}
-use Rattle.fields.proofs.two_bytes_lem.Tie as tie
+use Rattle.fields.proofs.two_bytes.Statement.{statement}
+use Rattle.fields.proofs.two_bytes.Tie as tie
 
 returns : tie.Need-returns
 unfolding two_bytes

@@ -19,7 +19,7 @@ abbrev decreases-loop : tie.decreases-loop
 decreases-loop xs product₀ i₀ product i = length xs - i
 
 loop-holds : tie.Need-loop-init invariant-loop decreases-loop
-loop-holds c = (omega arith, omega arith, product-start c.before.args.xs.now)
+loop-holds c = (omega arith, omega arith, product_start c.before.args.xs.now)
 
 loop-again : tie.Need-loop-preserved invariant-loop decreases-loop
 loop-again c =

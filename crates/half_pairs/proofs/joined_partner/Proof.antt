@@ -7,7 +7,7 @@ use Rattle.half_pairs.proofs.joined_partner.Statement.{statement}
 use Rattle.half_pairs.proofs.joined_partner.Tie as tie
 
 joined-place-requires : tie.Need-joined-place-requires
-joined-place-requires c κs = let s = c.before in (s.requires.0, risen-length s.requires.1, s.requires.2)
+joined-place-requires c κs = let s = c.before in (s.requires.0, risen_length s.requires.1, s.requires.2)
 
 partner-requires : tie.Need-partner-requires
 partner-requires c κs =

@@ -13,7 +13,7 @@ use Rattle.document.proofs.Bounds.{room, table_bound}
 use Rattle.coefficients.specs.Weights.{denominators_of}
 use Rattle.coefficients.proofs.Lagrange.{denominators_length}
 use Rattle.half_pairs.specs.HalfPairs.{weight_row, node_weights}
-use Rattle.half_pairs.proofs.Table.{row_length, nodes-different}
+use Rattle.half_pairs.proofs.Table.{row_length, nodes_different}
 use Rattle.half_pairs.proofs.put_weights.Statement.{statement}
 use Rattle.half_pairs.proofs.put_weights.Tie as tie
 

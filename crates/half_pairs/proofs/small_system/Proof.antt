@@ -12,7 +12,7 @@ use Rattle.square.specs.Steps.{filled}
 use Rattle.square.proofs.Steps.{filled_none, filled_next}
 use Rattle.document.specs.declared.Profile.{Profile}
 use Rattle.half_pairs.specs.HalfPairs.{half_pairs, system_line, system_square}
-use Rattle.half_pairs.proofs.System.{few_halves, halves-front, halves_fit}
+use Rattle.half_pairs.proofs.System.{few_halves, halves_front, halves_fit}
 use Rattle.half_pairs.proofs.small_system.Statement.{statement}
 use Rattle.half_pairs.proofs.small_system.Tie as tie
 

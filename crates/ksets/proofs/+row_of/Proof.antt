@@ -60,7 +60,7 @@ row_of_next_row_requires : (t : ℕ) → row-of-lts.Need-next-row-requires (
   next-row-reads.Asked,
   next-row-reads.Learnt,
 ) (row_of_at t) row_of_lem.Post
-row_of_next_row_requires t c κs = row_fits (c.before.before.args.n - 1) (omega arith) _ c.row_of_lem.ensures
+row_of_next_row_requires t c κs = row_fits (c.before.before.args.n - 1) (omega arith) _ c.row-of.ensures
 
 row_of_returns_2 : (t : ℕ) → row-of-lts.Need-returns-2 (
   row_of_below t,
@@ -70,7 +70,7 @@ row_of_returns_2 : (t : ℕ) → row-of-lts.Need-returns-2 (
 ) (row_of_at t) row_of_lem.Post
 row_of_returns_2 t c =
     c.next_row.ensures
-    ∙ row_more c.before.before.before.args.n (omega arith) _ c.before.row_of_lem.ensures
+    ∙ row_more c.before.before.before.args.n (omega arith) _ c.before.row-of.ensures
 
 pub +row-of-spec : {M : Type 1} → statement M
 +row-of-spec = close μ-row-of λ t. row-of-lts.spec (

@@ -12,7 +12,7 @@ returns c = sym (sets_none c.before.args.n c.before.args.k (omega arith))
 returns-2 : tie.Need-returns-2
 returns-2 c =
     let a = c.before.before.args in
-    row_at a.n a.k c.row_of_lem.result c.row_of_lem.ensures (omega arith)
+    row_at a.n a.k c.row-of.result c.row-of.ensures (omega arith)
 
 pub count_spec : {M : Type 1} → statement M
 count_spec = tie.close (tie.spec returns (λ c κs. search rules) (λ c. search rules) (λ c. search rules) returns-2)

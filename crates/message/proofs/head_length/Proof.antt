@@ -10,10 +10,10 @@ use Rattle.message.proofs.head_length.Tie as tie
 add-result-2 : tie.Need-overflow-add-result-2
 add-result-2 c =
     let s = c.before in
-    omega (arith, c.field_length.ensures, profile_short s.args.p, s.requires)
+    omega (arith, c.field-length.ensures, profile_short s.args.p, s.requires)
 
 returns : tie.Need-returns
-returns c = ap (λ (h : ℕ). h + (3 + c.before.args.m)) c.field_length.ensures
+returns c = ap (λ (h : ℕ). h + (3 + c.before.args.m)) c.field-length.ensures
 
 pub head-length-spec : {M : Type 1} → statement M
 head-length-spec = tie.close (tie.spec (λ c κs. search rules) (λ c. search rules) add-result-2 returns)

@@ -21,10 +21,10 @@ add-end c = omega (arith, room c.before.before.before)
 
 -- where steps 2 and 3 begin
 begins : (c : tie.After-walk-start)
-    → c.walk_start_lem.result ≤ c.before.before.before.before.before.before.before.before.args.p.n
+    → c.walk_start.result ≤ c.before.before.before.before.before.before.before.before.args.p.n
 begins c =
     let s = c.before.before.before.before.before.before.before.before in
-    rw c.walk_start_lem.ensures (walk_start_lem s.args.p s.args.f s.requires.1)
+    rw c.walk_start.ensures (walk_start_lem s.args.p s.args.f s.requires.1)
 
 list-step-requires-2 : tie.Need-list-step-requires-2
 list-step-requires-2 c κs =
@@ -53,7 +53,7 @@ returns c =
     let b = d.before.before in
     let o = b.before.before.before.before in
     let s = o.before.before.before.before in
-    nodes_written s.args.p s.requires.0 s.args.f s.requires.1 b.walk_start_lem.ensures o.list-step.ensures
+    nodes_written s.args.p s.requires.0 s.args.f s.requires.1 b.walk_start.ensures o.list-step.ensures
     d.list-step2.ensures t.list-step3.ensures
 
 pub list-nodes-spec : {M : Type 1} → statement M

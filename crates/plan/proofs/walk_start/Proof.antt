@@ -3,8 +3,8 @@ use mathlib.Core.Path.{sym}
 use borrow.Author.Rules.{rules}
 use borrow.Author.Tests.{eq-eqb, ne_eqb}
 use Rattle.document.specs.Plan.{walk_start}
-use Rattle.plan.proofs.walk_start_lem.Statement.{statement}
-use Rattle.plan.proofs.walk_start_lem.Tie as tie
+use Rattle.plan.proofs.walk_start.Statement.{statement}
+use Rattle.plan.proofs.walk_start.Tie as tie
 
 returns : tie.Need-returns
 unfolding walk_start

@@ -6,7 +6,7 @@ use Rattle.profile_field.proofs.field_length.Statement.{statement}
 use Rattle.profile_field.proofs.field_length.Tie as tie
 
 add-result : tie.Need-overflow-add-result
-add-result c = omega (arith, c.content_length.ensures, profile_short c.before.args.p)
+add-result c = omega (arith, c.content-length.ensures, profile_short c.before.args.p)
 
 pub field-length-spec : {M : Type 1} → statement M
 field-length-spec = tie.close (tie.spec (λ c κs. search rules) add-result (λ c. search rules))

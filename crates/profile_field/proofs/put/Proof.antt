@@ -21,13 +21,13 @@ module _ (c : tie.After-content-bytes) where
   opens : c.before.before.opening-bytes.result ≡ opening 1 (profile_content_length start.args.p)
   opens = c.before.before.opening-bytes.ensures
 
-  content : take c.before.content_length.result c.content-bytes.result ≡ profile_content start.args.p
-  content = taken _ c.before.content_length.ensures _ c.content-bytes.ensures
+  content : take c.before.content-length.result c.content-bytes.result ≡ profile_content start.args.p
+  content = taken _ c.before.content-length.ensures _ c.content-bytes.ensures
 
 array-share-prefix-content : tie.Need-array-share-prefix-content
 array-share-prefix-content c =
     let b = c.before.before.before.before.before.before in
-    omega (arith, enough _ b.before.content_length.ensures)
+    omega (arith, enough _ b.before.content-length.ensures)
 
 slice-aggregate-put-bytes-2 : tie.Need-slice-aggregate-put-bytes-2
 slice-aggregate-put-bytes-2 c = sym (length-take-le _ _ (array-share-prefix-content c.before))

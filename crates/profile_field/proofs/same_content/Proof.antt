@@ -17,11 +17,11 @@ module _ (c : tie.After-content-bytes) where
   abbrev start : tie.Start
   start = c.before.before.before
 
-  content : take c.before.content_length.result c.content-bytes.result ≡ profile_content start.args.p
-  content = taken _ c.before.content_length.ensures _ c.content-bytes.ensures
+  content : take c.before.content-length.result c.content-bytes.result ≡ profile_content start.args.p
+  content = taken _ c.before.content-length.ensures _ c.content-bytes.ensures
 
 array-share-prefix-content : tie.Need-array-share-prefix-content
-array-share-prefix-content c = omega (arith, enough _ c.before.content_length.ensures)
+array-share-prefix-content c = omega (arith, enough _ c.before.content-length.ensures)
 
 slice-aggregate-same-at : tie.Need-slice-aggregate-same-at
 slice-aggregate-same-at c = sym (length-take-le _ _ (array-share-prefix-content c.before))

@@ -151,7 +151,7 @@ module _ (c : tie.After-row) where
   from = (at placed * (p placed).a + l placed) * (p placed).s
 
   other_fits : from + (p placed).s ≤ (p placed).k * (p placed).a * (p placed).s
-  other_fits = room (at placed * (p placed).a + l placed) ((p placed).k * (p placed).a) (p placed).s other-strip
+  other_fits = room (at placed * (p placed).a + l placed) ((p placed).k * (p placed).a) (p placed).s other_strip
 
   other_inside : from + (p placed).s ≤ length (x placed)
   other_inside = omega (arith, other_fits, (start placed).pre.1.2)

@@ -85,7 +85,7 @@ put-column-requires c κs =
 add-j : tie.Need-overflow-add-j invariant-loop decreases-loop
 add-j c =
     let t = c.before.before.before.before in
-    omega (arith, t.loop-test.true, (start t).requires.0.0.shape.some_parity, (start t).requires.0.0.shape.few-nodes)
+    omega (arith, t.loop-test.true, (start t).requires.0.0.shape.some_parity, (start t).requires.0.0.shape.few_nodes)
 
 loop-less : tie.Need-loop-smaller invariant-loop decreases-loop
 loop-less c = omega (arith, c.before.before.before.before.loop-test.true)

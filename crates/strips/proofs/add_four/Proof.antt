@@ -6,7 +6,7 @@ use borrow.Author.Rules.{rules}
 use lib.ListN.{length, get_or}
 use Rattle.gf256.specs.Field.{◌⊕◌}
 use Rattle.strips.specs.Planes.{doubled_if, sum_four, added_four}
-use Rattle.lists.proofs.Written.{Written, written_none, written_all, written_next, written-more}
+use Rattle.lists.proofs.Written.{Written, written_none, written_all, written_next, written_more}
 use Rattle.strips.proofs.add_four.Statement.{statement}
 use Rattle.strips.proofs.add_four.Tie as tie
 

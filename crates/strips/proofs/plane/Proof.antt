@@ -15,7 +15,7 @@ lent : (i : ℕ) (ws src zeros : List ℕ) (first stride : ℕ) {os : List ℕ} 
     → SourcesFit first stride (length ws) n (length src) → zeros ≡ replicate 2048 0
     → os ≡ offsets_of (bits_at i ws) first stride → Lent zeros src os n
 lent i ws src zeros first stride {os} {n} w z e =
-    record { blank = z; short = w.short; inside = rw e (gathered-inside i ws first stride n (length src) w.reach) }
+    record { blank = z; short = w.short; inside = rw e (gathered_inside i ws first stride n (length src) w.reach) }
 
 gather-requires : tie.Need-gather-requires
 gather-requires c κs =
@@ -37,7 +37,7 @@ returns c =
     let g = k.before.before.args in
     plane_gathered g.i g.weights.now g.src.now g.dst.now g.first g.stride _ _
     (λ p. omega (arith, k.shared-slice-known.given p)) w.gather.ensures.1
-    c.before.before.double_add.ensures
+    c.before.before.double-add.ensures
 
 pub plane-spec : {M : Type 1} → statement M
 plane-spec = tie.close (tie.spec gather-requires double-add-requires (λ c. search rules) (λ c. search rules) returns)

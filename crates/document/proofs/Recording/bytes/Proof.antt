@@ -16,7 +16,7 @@ joined a b = get_or a 0 0 ∷ get_or a 1 0 ∷ get_or a 2 0 ∷ get_or a 3 0 ∷
 returns : tie.Need-returns
 unfolding joined recording_bytes four_bytes two_bytes
 returns c =
-    ap₂ joined c.before.before.four_bytes.ensures c.two_bytes_lem.ensures
+    ap₂ joined c.before.before.four_bytes.ensures c.two_bytes.ensures
 
 pub bytes-spec : {M : Type 1} → statement M
 bytes-spec =

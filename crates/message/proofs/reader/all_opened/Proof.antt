@@ -29,20 +29,20 @@ opened-requires : tie.Need-opened-requires invariant-loop decreases-loop
 opened-requires c κs =
     let t = c.before in
     let fits = t.before.before.before.requires in
-    (fits.accepted, omega (arith, c.strip_field.ensures, field_room _ _ _ _ _ fits t.loop-test.true))
+    (fits.accepted, omega (arith, c.strip-field.ensures, field_room _ _ _ _ _ fits t.loop-test.true))
 
 returns : tie.Need-returns invariant-loop decreases-loop
 returns c =
     let f = c.before in
     let l = f.before.before.before in
-    let same = f.opened.ensures ∙ ap (opened _ _) f.before.strip_field.ensures in
+    let same = f.opened.ensures ∙ ap (opened _ _) f.before.strip-field.ensures in
     sym (all_false _ _ _ (omega arith) (sym same ∙ not-true _ c.if1.true))
 
 loop-again : tie.Need-loop-preserved invariant-loop decreases-loop
 loop-again c =
     let f = c.before in
     let l = f.before.before.before in
-    let same = f.opened.ensures ∙ ap (opened _ _) f.before.strip_field.ensures in
+    let same = f.opened.ensures ∙ ap (opened _ _) f.before.strip-field.ensures in
     (omega arith, below_next _ _ l.loop.invariant.1 (sym same ∙ not-false _ c.if1.false))
 
 returns-2 : tie.Need-returns-2 invariant-loop decreases-loop

@@ -31,7 +31,7 @@ placed-requires : tie.Need-placed-requires invariant-loop decreases-loop
 placed-requires c κs =
     let t = c.before.before in
     let fits = t.before.before.before.before.requires in
-    omega (arith, c.strip_field.ensures, field_room _ _ _ _ _ fits t.loop-test.true)
+    omega (arith, c.strip-field.ensures, field_room _ _ _ _ _ fits t.loop-test.true)
 
 returns : tie.Need-returns invariant-loop decreases-loop
 returns c =
@@ -40,7 +40,7 @@ returns c =
     let b = l.before.before.before.args.b.now in
     let at = f.before in
     let same =
-    f.placed.ensures ∙ ap₂ (λ q. placed q b) at.before.place_at.ensures at.strip_field.ensures in
+    f.placed.ensures ∙ ap₂ (λ q. placed q b) at.before.place_at.ensures at.strip-field.ensures in
     found _ _ _ (omega arith) l.loop.invariant.1 (sym same ∙ not-true _ c.if1.true)
 
 loop-again : tie.Need-loop-preserved invariant-loop decreases-loop
@@ -50,7 +50,7 @@ loop-again c =
     let b = l.before.before.before.args.b.now in
     let at = f.before in
     let same =
-    f.placed.ensures ∙ ap₂ (λ q. placed q b) at.before.place_at.ensures at.strip_field.ensures in
+    f.placed.ensures ∙ ap₂ (λ q. placed q b) at.before.place_at.ensures at.strip-field.ensures in
     (omega arith, below_next _ _ l.loop.invariant.1 (sym same ∙ not-false _ c.if1.false))
 
 returns-2 : tie.Need-returns-2 invariant-loop decreases-loop

@@ -7,7 +7,7 @@ use lib.ListN.{length}
 use Rattle.document.specs.Message.{strip_field_start}
 use Rattle.message.specs.Reader.{FieldsFit}
 use Rattle.message.proofs.Fit.{head_room}
-use Rattle.message.proofs.Compared.{fits_whole, not-whole, not_first, not_second, formed_left}
+use Rattle.message.proofs.Compared.{fits_whole, not_whole, not_first, not_second, formed_left}
 use Rattle.message.proofs.reader.formed.Statement.{statement}
 use Rattle.message.proofs.reader.formed.Tie as tie
 
@@ -17,13 +17,13 @@ module _ (c : tie.Else1) where
   start = c.before.before.before
 
   whole : length start.args.b.now ≡ strip_field_start start.args.p start.args.m start.args.count
-  whole = c.if1.false ∙ c.before.strip_field.ensures
+  whole = c.if1.false ∙ c.before.strip-field.ensures
 
   fits : FieldsFit start.args.p start.args.m start.args.count start.args.b.now
   fits = fits_whole _ _ _ _ start.pre.0 start.pre.1 whole
 
 returns : tie.Need-returns
-returns c = not_whole _ _ _ _ (λ e. c.if1.true (e ∙ sym c.before.strip_field.ensures))
+returns c = not_whole _ _ _ _ (λ e. c.if1.true (e ∙ sym c.before.strip-field.ensures))
 
 opened-requires : tie.Need-opened-requires
 opened-requires c κs = omega (arith, head_room _ _ _ (fits c))
@@ -34,7 +34,7 @@ returns-2 c =
     not_first _ _ _ _ (whole t.before) (sym t.opened.ensures ∙ not-true _ c.if2.true)
 
 opens-requires : tie.Need-opens-requires
-opens-requires c κs = omega (arith, c.field_length.ensures, head_room _ _ _ (fits c.before.before.before))
+opens-requires c κs = omega (arith, c.field-length.ensures, head_room _ _ _ (fits c.before.before.before))
 
 returns-3 : tie.Need-returns-3
 returns-3 c =
@@ -42,7 +42,7 @@ returns-3 c =
     let l = t.before in
     let e = l.before in
     not_second _ _ _ _ (whole e.before.before) (sym e.before.opened.ensures ∙ not-false _ e.if2.false)
-    l.field_length.ensures (sym t.opens.ensures ∙ not-true _ c.if3.true)
+    l.field-length.ensures (sym t.opens.ensures ∙ not-true _ c.if3.true)
 
 all-opened-requires : tie.Need-all-opened-requires
 all-opened-requires c κs = fits c.before.before.before.before.before
@@ -55,7 +55,7 @@ returns-4 c =
     let e = l.before in
     c.all-opened.ensures
     ∙ formed_left _ _ _ _ (whole e.before.before) (sym e.before.opened.ensures ∙ not-false _ e.if2.false)
-    l.field_length.ensures (sym t.opens.ensures ∙ not-false _ j.if3.false)
+    l.field-length.ensures (sym t.opens.ensures ∙ not-false _ j.if3.false)
 
 pub formed-spec : {M : Type 1} → statement M
 formed-spec =

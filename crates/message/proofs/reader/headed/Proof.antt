@@ -14,17 +14,17 @@ returns c = not_profile _ _ _ (sym c.before.same-content.ensures ∙ not-true _ 
 add-same-at : tie.Need-overflow-add-same-at
 add-same-at c =
     let s = c.before.before.before.before.before in
-    omega (arith, c.field_length.ensures, profile_short s.args.p)
+    omega (arith, c.field-length.ensures, profile_short s.args.p)
 
 same-at-requires : tie.Need-same-at-requires
-same-at-requires c κs = omega (arith, c.field_length.ensures, c.before.before.before.before.before.requires.1)
+same-at-requires c κs = omega (arith, c.field-length.ensures, c.before.before.before.before.before.requires.1)
 
 returns-2 : tie.Need-returns-2
 returns-2 c =
     let l = c.before in
     let i = l.before in
     c.same_at.ensures
-    ∙ headed_left _ _ _ (sym i.before.same-content.ensures ∙ not-false _ i.if1.false) l.field_length.ensures
+    ∙ headed_left _ _ _ (sym i.before.same-content.ensures ∙ not-false _ i.if1.false) l.field-length.ensures
 
 pub headed-spec : {M : Type 1} → statement M
 headed-spec =
