@@ -6,7 +6,7 @@ use mathlib.Core.List.{List, [], ◌∷◌, ◌++◌, map}
 use Prim.Native.Nat.{ℕ, zero, suc, ◌<◌, suc-le-suc}
 use native.Mathlib.Nat.{not-suc-le-zero, le_of_suc-le-suc, zero-lt-suc}
 use lib.ListN.{length, get_or}
-use Rattle.lists.specs.Each.{Each, also}
+use Rattle.lists.specs.Each.{Each, none, also}
 
 pub data Some {X : Type 0} (R : X → Type 0) : List X → Type 0 where
   here : {x : X} {xs : List X} → R x → Some R (x ∷ xs)
@@ -46,5 +46,6 @@ module _ {X : Type 0} {R : X → Type 0} where
 
   -- what holds of some entry holds beside what holds of each
   pub some_each : {S : X → Type 0} {xs : List X} → Each S xs → Some R xs → (x : X) × S x × R x
+  some_each {S = S} none t = elim t [ ]
   some_each (also s ss) (here r) = (_, s, r)
   some_each (also s ss) (later t) = some_each ss t

@@ -1,5 +1,7 @@
 // Lists of bytes: written into a buffer, compared, searched; and the smaller of two numbers. All else here is about
 // lists alone: definitions in specs/, their laws in proofs/.
+#![tactic(auto)]
+
 ghost use Rattle.std.specs.Prelude.{◌≡◌, cond, [], ◌∷◌, ◌+◌, ◌≤◌, ◌<◌, min, length};
 ghost use Rattle.lists.specs.Put.{slice, same, Wrote};
 ghost use Rattle.lists.specs.Positions.{position_in};
