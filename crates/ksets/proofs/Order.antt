@@ -9,6 +9,7 @@ use Rattle.ksets.proofs.Pascal.{sets_zero}
 use Rattle.ksets.proofs.Ranked.{set_without, by_node, risen}
 
 smaller_first : (m b k : ℕ) (xs ys : List ℕ) → RisingFrom m (suc b) (suc k) ys → Smaller (b ∷ xs) ys
+smaller_first m b k xs mathlib.Core.List.[] x' = elim x' [ ]
 smaller_first m b k xs (y ∷ ys) (next h l r) = here h
 
 ordered : (b n k pos late : ℕ) → pos < late → late < sets n k → Smaller (set_at b n k pos) (set_at b n k late)

@@ -76,6 +76,7 @@ rank_other b n x xs e = rw (ne_eqb x b e)
 
 rank_past : (m b n k : ℕ) (xs : List ℕ) → RisingFrom m (suc b) (suc k) xs
     → rank_of b (suc n) xs ≡ sets n k + rank_of (suc b) n xs
+rank_past m b n k [] x' = elim x' [ ]
 rank_past m b n k (x ∷ xs) (next h l r) =
     rank_other b n x xs (λ q. omega arith)
     ∙ ap (λ (j : ℕ). sets n j + rank_of (suc b) n (x ∷ xs)) (risen_length r)
@@ -124,6 +125,9 @@ stands_past m b n k xs r s =
     )
 
 stands : (m b n k : ℕ) (xs : List ℕ) → b + n ≡ m → RisingFrom m b k xs → Stands b n k xs
+stands m b n zero (x ∷ xs) e x5 = elim x5 [ ]
+stands m b zero (suc k) [] e x5 = elim x5 [ ]
+stands m b (suc n) (suc k) [] e x6 = elim x6 [ ]
 stands m b n zero [] e none = (rw (rank_none b n, sets_zero n) (omega arith), no_more b n _)
 stands m b zero (suc k) (x ∷ xs) e (next h l r) = absurd (omega arith)
 stands m b (suc n) (suc k) (x ∷ xs) e (next h l r) =

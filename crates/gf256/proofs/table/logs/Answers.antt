@@ -2,12 +2,8 @@
 use mathlib.Core.Path.{refl}
 use Rattle.lists.specs.Listed.{listed}
 use Rattle.gf256.specs.Field.{◌⊕◌, double, log, log_from, table_of}
-use Rattle.gf256.proofs.table.logs.Statement.{statement}
-use Rattle.gf256.proofs.table.logs.Tie as tie
+use Rattle.gf256.proofs.table.logs.Goals as goal
 
-returns : tie.Need-returns
+pub returns : goal.returns
 unfolding table_of listed log log_from double ◌⊕◌
 returns c = refl
-
-pub logs-spec : {M : Type 1} → statement M
-logs-spec = tie.close (tie.spec returns)

@@ -6,19 +6,14 @@ use borrow.Author.Rules.{rules}
 use Rattle.gf256.specs.Field.{power}
 use Rattle.gf256.proofs.Tables.{table_at}
 use Rattle.gf256.proofs.Powers.{inverse_power}
-use Rattle.gf256.proofs.inverse_by.Statement.{statement}
-use Rattle.gf256.proofs.inverse_by.Tie as tie
+use Rattle.gf256.proofs.inverse_by.Goals as goal
 
-returns : tie.Need-returns
+pub returns : goal.returns
 returns c =
     let l = c.before in
     let s = l.before in
     let a = s.args.a in
     let p : 0 < a = omega arith in
     let h : a < 256 = search rules in
-    table_at power s.requires.0.0 _ (omega arith)
-    ∙ ap (λ (n : ℕ). power (255 - n)) l.log-at.ensures.0 ∙ sym (inverse_power p h)
-
-pub inverse-by-spec : {M : Type 1} → statement M
-inverse-by-spec =
-    tie.close (tie.spec (λ c κs. search rules) (λ c. search rules) (λ c. search rules) returns)
+    table_at power s.requires.exp_value.0 _ (omega arith)
+    ∙ ap (λ (n : ℕ). power (255 - n)) l.log_at.ensures.0 ∙ sym (inverse_power p h)

@@ -2,15 +2,15 @@
 -- lowest bits of y, is the product.
 use mathlib.Core.Path.{◌≡◌, sym, ap₂, ◌∙◌}
 use mathlib.Core.Logic.{⊎_elim}
-use Prim.Native.Nat.{ℕ, suc, ◌*◌, ◌/◌, ◌%◌, ◌-◌, ◌<◌}
+use Prim.Native.Nat.{ℕ, zero, suc, ◌*◌, ◌/◌, ◌%◌, ◌-◌, ◌<◌}
 use native.Mathlib.Nat.{mod-eq_of_lt, mul-zero, mul-one}
 use native.Mathlib.Omega.{arith}
 use lib.Bits.{bit_and, and_mask}
 use borrow.Author.Rules.{rules}
 use Rattle.gf256.specs.Field.{double, ◌⊕◌, ◌⊗◌, bit_product}
 use Rattle.gf256.proofs.Xor.{zero-add, add-zero, add_assoc}
-use Rattle.gf256.proofs.mul.Statement.{statement}
-use Rattle.gf256.proofs.mul.Tie as tie
+use Rattle.gf256.proofs.mul.Goals.{then-y-eq1, else-y-eq1}
+use Rattle.gf256.proofs.mul.Goals as goal
 
 start : (a b : ℕ) → a < 256 → b < 256 → 0 ⊕ bit_product 8 a b ≡ a ⊗ b
 unfolding ◌⊗◌
@@ -19,6 +19,7 @@ start a b h k = zero-add _ ∙ sym (ap₂ (bit_product 8) (mod-eq_of_lt h) (mod-
 -- the turn's branch adds x times the lowest bit of y
 turn : (r x y n : ℕ) → 0 < n → (r ⊕ (x * (y % 2))) ⊕ bit_product (n - 1) (double x) (y / 2) ≡ r ⊕ bit_product n x y
 unfolding bit_product
+turn r x y zero h = elim h [ ]
 turn r x y (suc n) h =
     let e : suc n - 1 ≡ n = omega arith in rw e (add_assoc r (x * (y % 2)) (bit_product n (double x) (y / 2)))
 
@@ -32,40 +33,22 @@ done : (r x y n : ℕ) → n ≡ 0 → r ≡ r ⊕ bit_product n x y
 unfolding bit_product
 done r x y n e = rw e (sym (add-zero r))
 
-abbrev invariant-loop : tie.invariant-loop
-invariant-loop a b r₀ x₀ y₀ n₀ r x y n = r ⊕ bit_product n x y ≡ a ⊗ b
+pub loop-n-init : goal.loop-n-init
+loop-n-init c = start c.args.a c.args.b (search rules) (search rules)
 
-abbrev decreases-loop : tie.decreases-loop
-decreases-loop a b r₀ x₀ y₀ n₀ r x y n = n
-
-loop-holds : tie.Need-loop-init invariant-loop decreases-loop
-loop-holds c = start c.args.a c.args.b (search rules) (search rules)
-
-loop-again : tie.Need-loop-preserved invariant-loop decreases-loop
+pub loop-n-preserved : goal.loop-n-preserved
 unfolding ◌⊕◌
-loop-again c =
-    let l = c.before.before.before.loop in
-    let f = c.before.if1 in
+loop-n-preserved c =
+    let l = c.before.before.before.loop-n in
+    let f = c.before.if-y-eq1 in
     let e : f.r ≡ l.r ⊕ (l.x * (l.y % 2)) =
-    ⊎_elim (λ w. cc (odd l.r l.x l.y w.0.taken)) (λ w. cc (even l.r l.x l.y w.0.left))
-    f.branch in
-    ap₂ (λ (r x : ℕ). r ⊕ bit_product (l.n - 1) x (l.y / 2)) e c.twice.ensures
+    elim f.branch [
+      then-y-eq1 w ↦ cc (odd l.r l.x l.y w.if-y-eq1.true) | else-y-eq1 w ↦ cc (even l.r l.x l.y w.if-y-eq1.false)
+    ] in
+    ap₂ (λ (r x : ℕ). r ⊕ bit_product (l.n - 1) x (l.y / 2)) e c.twice-x.ensures
     ∙ turn l.r l.x l.y l.n (omega arith) ∙ l.invariant
 
-returns : tie.Need-returns invariant-loop decreases-loop
+pub returns : goal.returns
 returns c =
-    let l = c.before.loop in
+    let l = c.before.loop-n in
     done l.r l.x l.y l.n (omega arith) ∙ l.invariant
-
-pub mul-spec : {M : Type 1} → statement M
-mul-spec =
-    tie.close
-    (tie.spec
-    invariant-loop
-    decreases-loop
-    loop-holds
-    (λ c κs. search rules)
-    (λ c. search rules)
-    (λ c. search rules)
-    loop-again
-    returns)

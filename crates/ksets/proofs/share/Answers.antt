@@ -4,19 +4,15 @@ use Prim.Native.Nat.{ℕ, ◌*◌, ◌/◌}
 use native.Mathlib.Omega.{arith}
 use Rattle.ksets.proofs.Pascal.{share_fits, share_is}
 use borrow.Author.Rules.{rules}
-use Rattle.ksets.proofs.share.Statement.{statement}
-use Rattle.ksets.proofs.share.Tie as tie
+use Rattle.ksets.proofs.share.Goals as goal
 
-mul-result : tie.Need-overflow-mul-result
-mul-result c =
+pub overflow_mul-result : goal.overflow_mul-result
+overflow_mul-result c =
     let p = c.requires in
     let e = ap (λ (t : ℕ). t * c.args.k) p.all in
     omega (arith, e, share_fits c.args.n c.args.k p.few p.node p.chosen)
 
-returns : tie.Need-returns
+pub returns : goal.returns
 returns c =
     ap (λ (t : ℕ). t * c.args.k / c.args.n) c.requires.all
     ∙ share_is c.args.n c.args.k c.requires.node c.requires.chosen
-
-pub share-spec : {M : Type 1} → statement M
-share-spec = tie.close (tie.spec mul-result (λ c. search rules) returns)

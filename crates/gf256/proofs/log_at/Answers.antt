@@ -6,10 +6,10 @@ use borrow.Author.Rules.{rules}
 use lib.ListN.{get_or}
 use Rattle.gf256.specs.Field.{log}
 use Rattle.gf256.proofs.Tables.{table_at, log_lt}
-use Rattle.gf256.proofs.log_at.Statement.{statement}
-use Rattle.gf256.proofs.log_at.Tie as tie
+use Rattle.gf256.proofs.log_at.Goals.{Start}
+use Rattle.gf256.proofs.log_at.Goals as goal
 
-module _ (c : tie.Start) where
+module _ (c : Start) where
   is_byte : c.args.a < 256
   is_byte = search rules
 
@@ -19,11 +19,9 @@ module _ (c : tie.Start) where
   is_small : log c.args.a < 255
   is_small = log_lt c.args.a is_byte
 
-cast-result : tie.Need-overflow-cast-result
-cast-result c = omega (arith, is_log c.before, is_small c.before)
+pub overflow_cast-result-2 : goal.overflow_cast-result-2
+overflow_cast-result-2 c =
+    let s = (goal.at.overflow_cast-result-2 c).Start in omega (arith, is_log s, is_small s)
 
-returns : tie.Need-returns
-returns c = (is_log c.before, omega (arith, is_log c.before, is_small c.before))
-
-pub log-at-spec : {M : Type 1} → statement M
-log-at-spec = tie.close (tie.spec (λ c. search rules) cast-result returns)
+pub returns : goal.returns
+returns c = let s = (goal.at.returns c).Start in (is_log s, omega (arith, is_log s, is_small s))
