@@ -10,7 +10,7 @@ ghost use Rattle.document.specs.Encoding;
 ghost use Rattle.document.specs.Encoding.{constant_of, factor_at};
 
 // The numbers of a profile as they are handed in: any numbers whatever.
-#[derive(Drop)]
+#[derive(Clone, Copy)]
 pub struct Numbers {
     pub n: usize,
     pub k: usize,
@@ -23,7 +23,7 @@ pub struct Numbers {
 // The same as a profile: nodes, data nodes, rows, coupling constant, strip length in bytes, and the edition, which says
 // how a plan walks and how field 01 is written. `Profile::new` hands out accepted ones only; a function that rests on
 // that asks that it is `Accepted`.
-#[derive(Drop)]
+#[derive(Clone, Copy)]
 pub struct Profile {
     pub n: usize,
     pub k: usize,
@@ -34,21 +34,21 @@ pub struct Profile {
 }
 
 // A node's number. A row's number is another type: staff read the two off different labels.
-#[derive(Drop)]
+#[derive(Clone, Copy)]
 pub struct Node(pub usize);
 
-#[derive(Drop)]
+#[derive(Clone, Copy)]
 pub struct Row(pub usize);
 
 // A place is written node first, then row.
-#[derive(Drop)]
+#[derive(Clone, Copy)]
 pub struct Place {
     pub node: Node,
     pub row: Row,
 }
 
 // A recording is a scenario and a run of it.
-#[derive(Drop)]
+#[derive(Clone, Copy)]
 pub struct Recording {
     pub scenario: u32,
     pub run: u16,
@@ -76,7 +76,7 @@ impl Recording {
 }
 
 // Why a call is refused, in the order in which it is tried; `number_of` in specs/ gives the number.
-#[derive(Drop)]
+#[derive(Clone, Copy)]
 pub enum Refusal {
     // 1: n, k or A not accepted
     Shape,
@@ -135,14 +135,14 @@ impl Refusal {
 }
 
 // The answer of a call: done, with its value, or refused.
-#[derive(Drop)]
+#[derive(Clone, Copy)]
 pub enum Answer {
     Done(usize),
     Refused(Refusal),
 }
 
 // The answer of a survey, with the number of sets looked at.
-#[derive(Drop)]
+#[derive(Clone, Copy)]
 pub enum Surveyed {
     // The first failing set: its position, counted from the first set of all, and the number.
     Failing(usize, usize),
@@ -154,7 +154,7 @@ pub enum Surveyed {
 }
 
 // The outcome of looking at a profile's numbers.
-#[derive(Drop)]
+#[derive(Clone, Copy)]
 pub enum Checked {
     Passed(Profile),
     Rejected(Refusal),

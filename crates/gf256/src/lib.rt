@@ -12,7 +12,7 @@ mod table;
 const MAX_DIVISORS: usize = 64;
 
 // The inverse of a byte, or that it has none.
-#[derive(Drop)]
+#[derive(Clone, Copy)]
 pub enum Inverted {
     Byte(u8),
     NoInverse,

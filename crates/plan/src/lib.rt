@@ -10,7 +10,7 @@ use document::{Answer, Checked, Node, Numbers, Place, Profile, Refusal, Row};
 
 // The three steps of document 01, by the nodes that they go over: the others of the lost node's group; those of other
 // groups at its local column; those of other groups at other local columns.
-#[derive(Drop)]
+#[derive(Clone, Copy)]
 pub enum Step {
     Own,
     Diagonal,

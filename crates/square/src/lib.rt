@@ -11,20 +11,20 @@ ghost use Rattle.square.specs.Columns.{Holds, EntriesOf, Multipliers, Cleared};
 pub const SIDE: usize = 80;
 
 // One line: the coefficients of one equation.
-#[derive(Drop)]
+#[derive(Clone, Copy)]
 pub struct Line {
     pub c: [u8; SIDE],
 }
 
 // The line whose entry in a column serves to clear it.
-#[derive(Drop)]
+#[derive(Clone, Copy)]
 pub enum Pivot {
     At(usize),
     Missing,
 }
 
 // Each column has its pivot, or the first that has none.
-#[derive(Drop)]
+#[derive(Clone, Copy)]
 pub enum Verdict {
     Regular,
     Singular(usize),

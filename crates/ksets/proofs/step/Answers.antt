@@ -5,12 +5,8 @@ use borrow.Author.Rules.{rules}
 use Rattle.ksets.proofs.step.Goals as goal
 
 pub raised-at-requires : goal.raised-at-requires
-raised-at-requires c =
-    let a = c.before.before.args in
-    steps_free a.n a.set-1.now c.before.before.requires
+raised-at-requires c = steps_free c.args.n c.args.set.now c.requires
 
 pub returns : goal.returns
 returns c =
-    let r = c.before.before.before.before.before in
-    let a = r.before.before.before.args in
-    c.before.before.write_run.ensures ∙ raised_next a.n r.raised-at.result a.set-1.now r.raised-at.ensures
+    c.write_run.ensures ∙ raised_next c.args.n c.raised-at.result c.args.set.now c.raised-at.ensures

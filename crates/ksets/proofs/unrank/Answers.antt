@@ -5,7 +5,4 @@ use borrow.Author.Rules.{rules}
 use Rattle.ksets.proofs.unrank.Goals as goal
 
 pub returns : goal.returns
-returns c =
-    let s = c.before.before.before.before.before.before in
-    let a = s.args in
-    c.before.before.write_set.ensures ∙ wrote_whole a.set-1.now a.n a.pos s.requires.1
+returns c = c.write_set.ensures ∙ wrote_whole c.args.set.now c.args.n c.args.pos c.requires.1

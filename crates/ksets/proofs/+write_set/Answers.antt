@@ -1,0 +1,46 @@
+use Rattle.std.proofs.Common.{rules, ◌≡◌, false, ℕ, ◌+◌, ◌-◌, ◌<◌, ◌≤◌, length, get_or, drop, ◌*◌, ◌/◌, ◌%◌, Bool, true, nat_eq, nat_lt, List, [], ◌∷◌, ◌++◌, slice_set, bit_and, bit_or, Fits, w8, w32, w64, Bor, MutBor}
+use Rattle.lists.specs.Listed.{listed}
+use Rattle.lists.specs.Put.{put}
+use Rattle.ksets.specs.Sets.{max_nodes, sets, set_at, rank_of, full, run, next_of}
+use Rattle.ksets.specs.Workers.{next_at, Writes, Shared, Ranks, Raised, Steps}
+use native.Mathlib.Omega.{arith}
+use mathlib.Core.Path.{◌∙◌, sym, ap₂}
+use Rattle.ksets.proofs.Pascal.{rule}
+use Rattle.ksets.proofs.Cases.{wrote_none, wrote_nowhere, wrote_with, wrote_without}
+use Rattle.ksets.proofs.+write_set.Goals as goal
+
+pub returns-then-k-eq0 : goal.returns-then-k-eq0
+returns-then-k-eq0 t c = wrote_none _ _ _ _ _ _ c.if-k-eq0.true
+
+pub returns-then-n-eq0 : goal.returns-then-n-eq0
+returns-then-n-eq0 t c = wrote_nowhere _ _ _ _ _ _ c.if-n-eq0.true
+
+pub overflow_sub-total : goal.overflow_sub-total
+overflow_sub-total t c =
+    let a = c.args in
+    omega (arith, c.share-with.ensures, rule a.n a.k (omega arith) (omega arith))
+
+pub write_set-requires-else-pos-with : goal.write_set-requires-else-pos-with
+write_set-requires-else-pos-with t c =
+    let a = c.args in (
+      omega arith,
+      record {
+        few = omega arith;
+        room = omega arith;
+        all = omega (arith, c.share-with.ensures, rule a.n a.k (omega arith) (omega arith));
+      },
+    )
+
+pub returns-then-pos-with : goal.returns-then-pos-with
+returns-then-pos-with t c =
+    let a = c.args in
+    c.write_set.ensures
+    ∙ wrote_with a.set.now a.at a.b a.n a.k a.pos (omega arith) (omega arith) c.share-with.result
+    c.share-with.ensures c.if-pos-with.true (omega arith)
+
+pub returns-else-pos-with : goal.returns-else-pos-with
+returns-else-pos-with t c =
+    let a = c.args in
+    c.write_set-else-pos-with.ensures
+    ∙ wrote_without a.set.now a.at a.b a.n a.k a.pos (omega arith) (omega arith) c.share-with.result
+    c.share-with.ensures c.if-pos-with.false
