@@ -8,8 +8,7 @@ use lib.Seq.{get_or-take, length-take-le}
 use borrow.Author.Rules.{rules}
 use Rattle.strips.specs.Planes.{Lent, part_of}
 use Rattle.strips.proofs.Passes.{part_here, part_past}
-use Rattle.strips.proofs.part.Statement.{statement}
-use Rattle.strips.proofs.part.Tie as tie
+use Rattle.strips.proofs.part.Goals as goal
 
 module _ (zeros src at : List ℕ) (count n : ℕ) (lent : Lent zeros src (take count at) n)
     (room : count ≤ length at) where
@@ -36,46 +35,32 @@ module _ (zeros src at : List ℕ) (count n : ℕ) (lent : Lent zeros src (take 
       let size : length zeros ≡ 2048 = ap length lent.blank ∙ length-replicate {A = ℕ} 2048 0 in
       sym (length-take-le n zeros (omega (arith, lent.short)))
 
-add-end : tie.Need-overflow-add-end
-add-end c =
-    let g = c.before.before.args in
-    let p = c.before.before.requires in
-    omega (arith, inside _ _ _ _ g.n p.0 p.1 g.j c.before.if1.true)
+pub overflow_add-end : goal.overflow_add-end
+overflow_add-end c =
+    let g = c.args in
+    let p = c.requires in
+    omega (arith, inside _ _ _ _ g.n p.0 p.1 g.j c.if-j-count.true)
 
-part-result-end : tie.Need-slice-bounds-result-end
-part-result-end c =
-    let g = c.before.before.args in
-    let p = c.before.before.requires in
-    inside _ _ _ _ g.n p.0 p.1 g.j c.before.if1.true
+pub slice_bounds-result-end : goal.slice_bounds-result-end
+slice_bounds-result-end c =
+    let g = c.args in
+    let p = c.requires in
+    inside _ _ _ _ g.n p.0 p.1 g.j c.if-j-count.true
 
-returns : tie.Need-returns
-returns c =
-    let g = c.before.before.before.args in
-    let p = c.before.before.before.requires in
-    here _ _ _ _ g.n p.0 p.1 g.j c.before.before.if1.true
+pub returns-then-j-count : goal.returns-then-j-count
+returns-then-j-count c =
+    let g = c.args in
+    let p = c.requires in
+    here _ _ _ _ g.n p.0 p.1 g.j c.if-j-count.true
 
-slice-aggregate-result : tie.Need-slice-aggregate-result
-slice-aggregate-result c =
-    let g = c.before.before.args in
-    let p = c.before.before.requires in
+pub slice_bounds-result-end-2 : goal.slice_bounds-result-end-2
+slice_bounds-result-end-2 c =
+    let g = c.args in
+    let p = c.requires in
     whole _ _ _ _ g.n p.0 p.1
 
-returns-2 : tie.Need-returns-2
-returns-2 c =
-    let g = c.before.before.args in
-    let p = c.before.before.requires in
-    past _ _ _ _ g.n p.0 p.1 g.j c.before.if1.false
-
-pub part-spec : {M : Type 1} → statement M
-part-spec =
-    tie.close
-    (tie.spec
-    (λ c. search rules)
-    (λ c. search rules)
-    add-end
-    (λ c. search rules)
-    (λ c. search rules)
-    part-result-end
-    returns
-    slice-aggregate-result
-    returns-2)
+pub returns : goal.returns
+returns c =
+    let g = c.args in
+    let p = c.requires in
+    past _ _ _ _ g.n p.0 p.1 g.j c.if-j-count.false

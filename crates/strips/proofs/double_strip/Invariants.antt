@@ -1,0 +1,16 @@
+-- `strips::double_strip` meets its contract.
+use mathlib.Core.Path.{ap, ◌∙◌}
+use Prim.Native.Nat.{◌-◌}
+use native.Mathlib.Omega.{arith}
+use borrow.Author.Rules.{rules}
+use lib.ListN.{length, get_or}
+use Rattle.gf256.specs.Field.{double}
+use Rattle.strips.specs.Strips.{doubled_strip}
+use Rattle.lists.proofs.Written.{Written, written_none, written_all, written_next, written_more}
+use Rattle.strips.proofs.double_strip.Given as goal
+
+abbrev pub invariant-loop-b : goal.invariant-loop-b
+invariant-loop-b l = Written (λ b. double (get_or l.initial.strip b 0)) l.b l.initial.strip l.strip
+
+abbrev pub decreases-loop-b : goal.decreases-loop-b
+decreases-loop-b l = length l.initial.strip - l.b
