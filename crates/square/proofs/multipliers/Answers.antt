@@ -13,8 +13,7 @@ use Rattle.strips.specs.Strips.{added_scaled}
 use Rattle.strips.proofs.Added.{added_length, added_at_lem}
 use Rattle.square.proofs.Steps.{set_at}
 use borrow.Author.Rules.{rules}
-use Rattle.square.proofs.multipliers.Statement.{statement}
-use Rattle.square.proofs.multipliers.Tie as tie
+use Rattle.square.proofs.multipliers.Goals as goal
 
 -- What the array holds: v times the entries, and 1 ⊕ v at r, where v is the inverse of the pivot.
 multiplier_at_lem : (es : List ℕ) (r v pivot m : ℕ) → r < m → v ≡ inverse pivot → (i : ℕ) → i < m
@@ -28,26 +27,12 @@ multiplier_at_lem es r v pivot m h e i l =
     set_at (added_scaled v 0 es zeros) r (1 ⊕ v) i (omega (arith, added_length v 0 es zeros))
     ∙ ap₂ (λ (v x : ℕ). cond (eqb i r) (1 ⊕ v) x) e (other ∙ ap (λ (v : ℕ). v ⊗ get_or es i 0) e)
 
-returns : tie.Need-returns
+pub returns : goal.returns
 unfolding ◌⊕◌
 returns c =
-    let a = c.before in
-    let n = a.before.before.before in
-    let g = n.before.args in
+    let g = c.args in
     record {
       at = λ i l.
-          ap (λ (x : List ℕ). get_or (set x g.r (1 ⊕ n.inverse-of.result)) i 0) a.add-scaled.ensures
-          ∙ multiplier_at_lem _ g.r n.inverse-of.result _ 80 (omega arith) n.inverse-of.ensures i l;
+          ap (λ (x : List ℕ). get_or (set x g.r (1 ⊕ c.inverse_of-v.result)) i 0) c.add_scaled.ensures
+          ∙ multiplier_at_lem _ g.r c.inverse_of-v.result _ 80 (omega arith) c.inverse_of-v.ensures i l;
     }
-
-pub multipliers-spec : {M : Type 1} → statement M
-multipliers-spec =
-    tie.close
-    (tie.spec
-    (λ c. search rules)
-    (λ c κs. search rules)
-    (λ c. search rules)
-    (λ c. search rules)
-    (λ c κs. search rules)
-    (λ c. search rules)
-    returns)

@@ -9,23 +9,11 @@ use Rattle.square.specs.declared.Line.{Line}
 use Rattle.square.specs.Steps.{no_line, line_at, filled, unit_line, unit_square}
 use Rattle.square.proofs.Steps.{filled_none, filled_next, filled_rest, filled_all, unit_line_set}
 use borrow.Author.Rules.{rules}
-use Rattle.square.proofs.unit_square.Statement.{statement}
-use Rattle.square.proofs.unit_square.Tie as tie
+use Rattle.square.proofs.unit_square.Invariants.{unit_at, zeros}
+use Rattle.square.proofs.unit_square.Goals as goal
 
-abbrev unit_at : ℕ → Line
-unit_at i = record { c = unit_line 80 i }
-
-abbrev zeros : Line
-zeros = record { c = replicate 80 0 }
-
-abbrev invariant-loop : tie.invariant-loop
-invariant-loop z₀ i₀ z i = (i ≤ 80) × (z ≡ filled unit_at (replicate 80 zeros) i)
-
-abbrev decreases-loop : tie.decreases-loop
-decreases-loop z₀ i₀ z i = 80 - i
-
-loop-holds : tie.Need-loop-init invariant-loop decreases-loop
-loop-holds c = (search rules, filled_none _ _)
+pub loop-i-init : goal.loop-i-init
+loop-i-init c = (search rules, filled_none _ _)
 
 -- the line to be written next
 next : (z : List Line) (i : ℕ) → i < 80 → z ≡ filled unit_at (replicate 80 zeros) i
@@ -37,36 +25,19 @@ next z i h e =
     (filled_rest unit_at (replicate 80 zeros) i i no_line (omega arith) ∙ get_or-replicate 80 i zeros no_line h))
     ∙ unit_line_set 80 i h
 
-loop-again : tie.Need-loop-preserved invariant-loop decreases-loop
-loop-again c =
-    let l = c.before.before.loop in (
+pub loop-i-preserved : goal.loop-i-preserved
+loop-i-preserved c =
+    let l = c.loop-i in (
       search rules,
       ap₂ (λ (x : List Line) (k : List ℕ). set x l.i (record { c = k })) l.invariant.1
           (next l.z l.i (omega arith) l.invariant.1)
           ∙ filled_next unit_at _ l.i,
     )
 
-returns : tie.Need-returns invariant-loop decreases-loop
+pub returns : goal.returns
 unfolding unit_square
 returns c =
-    let l = c.before.loop in
+    let l = c.loop-i in
     let e : l.i ≡ 80 = omega arith in
     l.invariant.1 ∙ ap (filled unit_at (replicate 80 zeros)) e
     ∙ filled_all unit_at (replicate 80 zeros) 80 no_line (length-replicate 80 zeros)
-
-pub unit-square-spec : {M : Type 1} → statement M
-unit-square-spec =
-    tie.close
-    (tie.spec
-    invariant-loop
-    decreases-loop
-    loop-holds
-    (λ c. search rules)
-    (λ c. search rules)
-    (λ c. search rules)
-    (λ c. search rules)
-    (λ c. search rules)
-    (λ c. search rules)
-    (λ c. search rules)
-    loop-again
-    returns)
