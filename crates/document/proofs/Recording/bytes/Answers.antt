@@ -6,29 +6,13 @@ use borrow.Author.Rules.{rules}
 use lib.ListN.{get_or}
 use Rattle.fields.specs.Fields.{two_bytes, four_bytes}
 use Rattle.document.specs.Message.{recording_bytes}
-use Rattle.document.proofs.Recording.bytes.Statement.{statement}
-use Rattle.document.proofs.Recording.bytes.Tie as tie
+use Rattle.document.proofs.Recording.bytes.Goals as goal
 
 -- entry by entry
 joined : List ℕ → List ℕ → List ℕ
 joined a b = get_or a 0 0 ∷ get_or a 1 0 ∷ get_or a 2 0 ∷ get_or a 3 0 ∷ get_or b 0 0 ∷ get_or b 1 0 ∷ []
 
-returns : tie.Need-returns
+pub returns : goal.returns
 unfolding joined recording_bytes four_bytes two_bytes
 returns c =
-    ap₂ joined c.before.before.four_bytes.ensures c.two_bytes.ensures
-
-pub bytes-spec : {M : Type 1} → statement M
-bytes-spec =
-    tie.close
-    (tie.spec
-    (λ c κs. search rules)
-    (λ c. search rules)
-    (λ c κs. search rules)
-    (λ c. search rules)
-    (λ c. search rules)
-    (λ c. search rules)
-    (λ c. search rules)
-    (λ c. search rules)
-    (λ c. search rules)
-    returns)
+    ap₂ joined c.four_bytes-scenario.ensures c.two_bytes-run.ensures

@@ -3,12 +3,8 @@ use mathlib.Core.Path.{sym}
 use native.Mathlib.Omega.{arith}
 use Rattle.document.proofs.ByteField.{number_byte}
 use Rattle.document.specs.Encoding.{constant_of}
-use Rattle.document.proofs.Profile.constant.Statement.{statement}
-use Rattle.document.proofs.Profile.constant.Tie as tie
+use Rattle.document.proofs.Profile.constant.Goals as goal
 
-returns : tie.Need-returns
+pub returns : goal.returns
 unfolding constant_of
 returns c = sym (number_byte c.args.self.t (omega (arith, c.requires)))
-
-pub constant-spec : {M : Type 1} → statement M
-constant-spec = tie.close (tie.spec returns)
