@@ -47,6 +47,7 @@ use Rattle.demands.proofs.Tables.{
 module _ {X : Type 0} (refuse : Refusal → X) (x : X) where
   pub tried_stops : {tests : List Test} {table : List Sentence} → Decided tests table → {r : Refusal} → FirstOf table r
       → tried tests refuse x ≡ refuse r
+  tried_stops none {r = r} x5 = elim x5 [ ]
   tried_stops (line {test} {s} {tests} same decides rest) (here h) =
       tried_holds refuse test tests x (decides.1 h) ∙ ap refuse same
   tried_stops (line {test} {s} {tests} same decides rest) (later n first) =

@@ -58,6 +58,7 @@ pub data Only (Q : Refusal → Type 0) : List Sentence → Type 1 where
 
 module _ {Q : Refusal → Type 0} where
   pub held : {table : List Sentence} {r : Refusal} → Only Q table → Holds table r → Q r
+  held {r = r} no_line_lem x3 = elim x3 [ ]
   held (and_line q o) (this h) = q h
   held (and_line q o) (next h) = held o h
 
