@@ -8,11 +8,10 @@ use lib.ListN.{length, set, length-set}
 use Rattle.lists.specs.Put.{Wrote}
 use Rattle.lists.proofs.Put.{wrote_one, wrote_then}
 use Rattle.document.specs.Plan.{plan_bytes}
-use Rattle.plan.proofs.put_place.Statement.{statement}
-use Rattle.plan.proofs.put_place.Tie as tie
+use Rattle.plan.proofs.put_place.Goals as goal
 
-slice-write-out-2 : tie.Need-slice-write-out-2
-slice-write-out-2 c = rw length-set (omega (arith, c.before.before.requires.0))
+pub bounds-out-at-2 : goal.bounds-out-at-2
+bounds-out-at-2 c = rw length-set (omega (arith, c.requires.0))
 
 two_stored : (d : List ℕ) (at a b : ℕ) → at + 2 ≤ length d
     → Wrote d at (a ∷ b ∷ []) (at + 2) (set (set d at a) (at + 1) b)
@@ -21,19 +20,6 @@ two_stored d at a b h =
     let l : at + 1 < length (set d at a) = rw length-set (omega arith) in
     rw e at (wrote_then (omega arith) (wrote_one d at a (omega arith)) (wrote_one (set d at a) (at + 1) b l))
 
-returns : tie.Need-returns
+pub returns : goal.returns
 unfolding plan_bytes
-returns c = two_stored _ _ _ _ c.before.before.requires.0
-
-pub put-place-spec : {M : Type 1} → statement M
-put-place-spec =
-    tie.close
-    (tie.spec
-    (λ c. search rules)
-    (λ c. search rules)
-    (λ c. search rules)
-    (λ c. search rules)
-    slice-write-out-2
-    (λ c. search rules)
-    (λ c. search rules)
-    returns)
+returns c = two_stored _ _ _ _ c.requires.0
