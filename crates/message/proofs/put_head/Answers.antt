@@ -24,8 +24,11 @@ module _ (c : After-put_opening-after_opening) where
       × (length c.put_opening-after_opening.new.out ≡ length c.args.out.now)
   unfolding opening two_bytes
   after_opening =
-      let a = ((omega (arith, c.put-after_profile.ensures.ends, field_length 1 (profile_content c.args.p)), c.put-after_profile.auto.out)) in
-      (omega (arith, c.put_opening-after_opening.ensures.ends, a.0), c.put_opening-after_opening.auto.out ∙ a.1)
+      let past : c.put-after_profile.result ≡ profile_field_length c.args.p =
+      omega (arith, c.put-after_profile.ensures.ends, field_length 1 (profile_content c.args.p)) in (
+        omega (arith, c.put_opening-after_opening.ensures.ends, past),
+        c.put_opening-after_opening.auto.out ∙ c.put-after_profile.auto.out,
+      )
 
 pub put_opening-after_opening-requires : goal.put_opening-after_opening-requires
 put_opening-after_opening-requires c =

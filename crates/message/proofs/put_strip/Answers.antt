@@ -34,17 +34,22 @@ module _ (c : After-put_opening-after_opening) where
 module _ (c : After-put_bytes-after_place) where
   after_place : (c.put_bytes-after_place.result ≡ c.args.at + 5)
       × (length c.put_bytes-after_place.new.out ≡ length c.args.out.now)
+  unfolding opening two_bytes
   after_place =
-      let o = ((c.put_opening-after_opening.ensures.ends, c.put_opening-after_opening.auto.out)) in
-      (omega (arith, c.put_bytes-after_place.ensures.ends, o.0), c.put_bytes-after_place.auto.out ∙ o.1)
+      let past : c.put_opening-after_opening.result ≡ c.args.at + 3 = c.put_opening-after_opening.ensures.ends in (
+        omega (arith, c.put_bytes-after_place.ensures.ends, past),
+        c.put_bytes-after_place.auto.out ∙ c.put_opening-after_opening.auto.out,
+      )
 
 module _ (c : After-put_recording-after_recording) where
   after_recording : (c.put_recording-after_recording.result ≡ c.args.at + strip_offset)
       × (length c.put_recording-after_recording.new.out ≡ length c.args.out.now)
+  unfolding opening two_bytes
   after_recording =
-      let b = (let o = ((c.put_opening-after_opening.ensures.ends, c.put_opening-after_opening.auto.out)) in (omega (arith, c.put_bytes-after_place.ensures.ends, o.0), c.put_bytes-after_place.auto.out ∙ o.1)) in (
-        omega (arith, c.put_recording-after_recording.ensures.ends, recording_length_lem c.args.r, b.0),
-        c.put_recording-after_recording.auto.out ∙ b.1,
+      let past : c.put_opening-after_opening.result ≡ c.args.at + 3 = c.put_opening-after_opening.ensures.ends in
+      let placed : c.put_bytes-after_place.result ≡ c.args.at + 5 = omega (arith, c.put_bytes-after_place.ensures.ends, past) in (
+        omega (arith, c.put_recording-after_recording.ensures.ends, recording_length_lem c.args.r, placed),
+        c.put_recording-after_recording.auto.out ∙ c.put_bytes-after_place.auto.out ∙ c.put_opening-after_opening.auto.out,
       )
 
 pub put_bytes-after_place-requires : goal.put_bytes-after_place-requires

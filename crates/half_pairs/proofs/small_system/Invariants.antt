@@ -1,0 +1,28 @@
+-- `half_pairs::small_system` meets its contract. The front of the table of half pairs is their list; the invariant: the
+-- lines before e are written.
+use mathlib.Core.Path.{◌≡◌, sym, ap, ap₂, ◌∙◌}
+use mathlib.Core.List.{List}
+use Prim.Native.Nat.{ℕ, ◌-◌, ◌≤◌, ◌<◌}
+use native.Mathlib.Omega.{arith}
+use borrow.Author.Rules.{rules}
+use lib.ListN.{length, set, replicate}
+use lib.Seq.{length-take-le}
+use Rattle.square.specs.declared.Line.{Line}
+use Rattle.square.specs.Steps.{filled}
+use Rattle.square.proofs.Steps.{filled_none, filled_next}
+use Rattle.document.specs.declared.Profile.{Profile}
+use Rattle.half_pairs.specs.HalfPairs.{half_pairs, system_line, system_square}
+use Rattle.half_pairs.proofs.System.{few_halves, halves_front, halves_fit}
+use Rattle.half_pairs.proofs.small_system.Given as goal
+
+abbrev pub system_line_of : Profile → List ℕ → ℕ → Line
+system_line_of p nodes e = record { c = system_line p nodes e }
+
+abbrev pub blank : List Line
+blank = replicate 80 (record { c = replicate 80 0 })
+
+abbrev pub invariant-loop-e : goal.invariant-loop-e
+invariant-loop-e l = (l.e ≤ l.count) × (l.s ≡ filled (system_line_of l.p l.nodes) blank l.e)
+
+abbrev pub decreases-loop-e : goal.decreases-loop-e
+decreases-loop-e l = l.count - l.e
