@@ -22,7 +22,7 @@ const WEIGHTS: usize = Profile::MAX_NODES * Profile::MAX_NODES;
 
 // What the system of a reading is made of: where each node stands in the list of the named nodes, the numbers of the
 // half pairs and how many there are, and the weights at all nodes.
-#[derive(Drop)]
+#[derive(Clone, Copy)]
 pub struct HalfPairs {
     pub positions: [u8; Profile::MAX_NODES],
     pub halves: [u8; SIDE],
