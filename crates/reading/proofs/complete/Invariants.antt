@@ -1,0 +1,18 @@
+-- `reading::complete` meets its contract. The invariant: the half pairs before e are completed.
+use mathlib.Core.Path.{◌≡◌, refl, ap, ◌∙◌}
+use Prim.Native.Nat.{ℕ, ◌-◌, ◌≤◌}
+use native.Mathlib.Omega.{arith}
+use borrow.Author.Rules.{rules}
+use lib.ListN.{length}
+use Rattle.square.specs.Steps.{line_at}
+use Rattle.half_pairs.proofs.System.{few_halves}
+use Rattle.reading.specs.Steps.{completed_strip, completed}
+use Rattle.reading.proofs.Partners.{completed_none, completed_next}
+use Rattle.reading.proofs.complete.Given as goal
+
+abbrev pub invariant-loop-e : goal.invariant-loop-e
+invariant-loop-e l =
+    (l.e ≤ length l.halves) × (length l.y ≡ length l.initial.y) × (l.y ≡ completed l.p l.nodes l.lines l.r l.e l.initial.y)
+
+abbrev pub decreases-loop-e : goal.decreases-loop-e
+decreases-loop-e l = length l.halves - l.e

@@ -1,0 +1,116 @@
+-- `reading::known_partner` meets its contract: the node's part of the table is its weights.
+use mathlib.Core.Path.{◌≡◌, sym, ap, subst, ◌∙◌}
+use mathlib.Core.List.{List}
+use Prim.Native.Nat.{ℕ, ◌+◌, ◌-◌, ◌*◌, ◌≤◌}
+use native.Mathlib.Omega.{arith}
+use borrow.Author.Rules.{rules}
+use lib.ListN.{length, take, drop}
+use Rattle.ksets.proofs.Ranked.{risen_length}
+use Rattle.strips.specs.Strips.{combination_of}
+use Rattle.document.specs.declared.Profile.{Profile}
+use Rattle.document.specs.declared.Place.{Place}
+use Rattle.document.specs.Places.{Within}
+use Rattle.document.proofs.Bounds.{room, table_bound, column_bound}
+use Rattle.half_pairs.specs.HalfPairs.{weight_row}
+use Rattle.half_pairs.proofs.Named.{joined_partner_within}
+use Rattle.half_pairs.proofs.Table.{row_length, weight_table_length, row_at}
+use Rattle.reading.specs.Steps.{known_partner_strip}
+use Rattle.reading.proofs.Partners.{strip_fits}
+use Rattle.reading.proofs.known_partner.Goals.{After-joined_partner-r, Start}
+use Rattle.reading.proofs.known_partner.Goals as goal
+
+-- past the partner of strip z
+module _ (c : After-joined_partner-r) where
+  abbrev p : Profile
+  p = c.args.p
+
+  abbrev nodes : List ℕ
+  nodes = c.args.nodes.now
+
+  abbrev partner : Place
+  partner = c.joined_partner-r.result
+
+  within : Within p partner
+  within =
+      subst (Within p) (sym c.joined_partner-r.ensures)
+      (joined_partner_within p c.requires.accepted.0 nodes c.requires.accepted.1 c.args.z c.requires.accepted.2)
+
+  -- the node's part lies within the table
+  inside : partner.node.0 * p.k + p.k ≤ 576
+  inside =
+      omega (
+        arith,
+        room partner.node.0 p.n p.k within.node,
+        table_bound p c.requires.accepted.0,
+      )
+
+  -- what is lent of the table
+  part : (w : ℕ) → w ≡ p.k
+      → take w (drop (partner.node.0 * p.k) c.args.table.now) ≡ weight_row p.k nodes partner.node.0
+  part w e =
+      ap (λ (m : ℕ). take m (drop (partner.node.0 * p.k) c.args.table.now)) e
+      ∙ ap (λ (l : List ℕ). take p.k (drop (partner.node.0 * p.k) l)) c.requires.table_value.0
+      ∙ row_at p c.requires.accepted.0 nodes c.requires.accepted.1 partner.node.0 within.node
+
+  abbrev width : ℕ
+  width = partner.node.0 * p.k + p.k - partner.node.0 * p.k
+
+  lent : take width (drop (partner.node.0 * p.k) c.args.table.now) ≡ weight_row p.k nodes partner.node.0
+  lent = part width (omega arith)
+
+  -- the sum is that of the partner
+  summed : combination_of (take width (drop (partner.node.0 * p.k) c.args.table.now)) c.args.y.now
+      (partner.row.0 * p.s) (p.a * p.s) p.s
+      ≡ known_partner_strip p nodes c.args.y.now c.args.z
+  unfolding known_partner_strip
+  summed =
+      ap (λ (l : List ℕ). combination_of l c.args.y.now (partner.row.0 * p.s) (p.a * p.s) p.s) lent
+      ∙ ap
+      (λ (q : Place). combination_of (weight_row p.k nodes q.node.0) c.args.y.now (q.row.0 * p.s)
+      (p.a * p.s) p.s)
+      c.joined_partner-r.ensures
+
+  lent_size : length (take width (drop (partner.node.0 * p.k) c.args.table.now)) ≡ p.k
+  lent_size = ap length lent ∙ row_length p.k nodes partner.node.0 (risen_length c.requires.accepted.1)
+
+pub overflow_mul-from : goal.overflow_mul-from
+overflow_mul-from c = omega (arith, inside (goal.at.overflow_mul-from c).After-joined_partner-r)
+
+pub overflow_add-end : goal.overflow_add-end
+overflow_add-end c = omega (arith, inside (goal.at.overflow_add-end c).After-joined_partner-r)
+
+pub overflow_mul-r : goal.overflow_mul-r
+overflow_mul-r c =
+    omega (
+      arith,
+      room (partner (goal.at.overflow_mul-r c).After-joined_partner-r).row.0 (p (goal.at.overflow_mul-r c).After-joined_partner-r).a (p (goal.at.overflow_mul-r c).After-joined_partner-r).s (within (goal.at.overflow_mul-r c).After-joined_partner-r).row,
+      column_bound c.args.p c.requires.accepted.0,
+    )
+
+pub overflow_mul-p : goal.overflow_mul-p
+overflow_mul-p c =
+    omega (arith, column_bound c.args.p c.requires.accepted.0)
+
+pub slice_bounds-combine-end : goal.slice_bounds-combine-end
+slice_bounds-combine-end c =
+    omega (
+      arith,
+      inside (goal.at.slice_bounds-combine-end c).After-joined_partner-r,
+      ap length c.requires.table_value.0 ∙ weight_table_length c.args.p c.requires.accepted.0 (nodes (goal.at.slice_bounds-combine-end c).After-joined_partner-r) c.requires.accepted.1,
+    )
+
+pub combine-requires : goal.combine-requires
+combine-requires c =
+    let acc = c.requires.accepted.0 in
+    record {
+      few = omega (arith, lent_size (goal.at.combine-requires c).After-joined_partner-r, acc.shape.some_parity, acc.shape.few_nodes);
+      short = omega (arith, c.requires.table_value.1, acc.short);
+      reach = λ q h.
+          let r = strip_fits (p (goal.at.combine-requires c).After-joined_partner-r) acc (nodes (goal.at.combine-requires c).After-joined_partner-r) c.requires.accepted.1 (partner (goal.at.combine-requires c).After-joined_partner-r).row.0 q (within (goal.at.combine-requires c).After-joined_partner-r).row (omega (arith, lent_size (goal.at.combine-requires c).After-joined_partner-r)) in
+          omega (arith, r, c.requires.table_value.2);
+    }
+
+pub returns : goal.returns
+returns c =
+    c.combine.ensures
+    ∙ ap (combination_of _ c.args.y.now ((partner (goal.at.returns c).After-joined_partner-r).row.0 * (p (goal.at.returns c).After-joined_partner-r).s) ((p (goal.at.returns c).After-joined_partner-r).a * (p (goal.at.returns c).After-joined_partner-r).s)) c.requires.table_value.1 ∙ summed (goal.at.returns c).After-joined_partner-r

@@ -1,0 +1,122 @@
+-- `reading::put_column` meets its contract.
+use mathlib.Core.Path.{◌≡◌, sym, ap, ap₂, ◌∙◌}
+use mathlib.Core.Bool.{cond}
+use mathlib.Core.List.{List}
+use Prim.Native.Nat.{ℕ, ◌+◌, ◌-◌, ◌*◌, ◌≤◌, ◌<◌}
+use native.Mathlib.Nat.{mul_assoc}
+use native.Mathlib.Omega.{arith}
+use borrow.Author.Rules.{rules}
+use lib.ListN.{length, get_or, take, drop}
+use borrow.Author.Tests.{lt-ltb, le-ltb}
+use Rattle.ksets.proofs.Ranked.{risen_length}
+use Rattle.strips.specs.Strips.{combination_of, strip_at}
+use Rattle.document.proofs.Bounds.{room, table_bound, column_bound, data_bound}
+use Rattle.lists.specs.Positions.{position_in}
+use Rattle.half_pairs.specs.HalfPairs.{weight_row}
+use Rattle.half_pairs.proofs.Named.{table_length, table_at}
+use Rattle.half_pairs.proofs.Table.{row_length, row_at, weight_table_length}
+use Rattle.reading.specs.Steps.{base_column}
+use Rattle.reading.proofs.put_column.Goals.{After-shared_slice_known-5-1, Start}
+use Rattle.reading.proofs.put_column.Goals as goal
+
+module _ (s : Start) where
+  abbrev k : ℕ
+  k = s.args.p.k
+
+  abbrev width : ℕ
+  width = s.args.p.a * s.args.p.s
+
+  below : s.args.j < 24
+  below = omega (arith, s.requires.accepted.2, s.requires.accepted.0.shape.few_nodes)
+
+  -- where the node stands among the named ones
+  position : get_or s.args.positions.now s.args.j 0 ≡ position_in s.args.nodes.now s.args.j
+  position = ap (λ (t : List ℕ). get_or t s.args.j 0) s.requires.positions_value.0 ∙ table_at s.args.nodes.now s.args.j below
+
+  -- the strips are k columns
+  whole : length s.args.y.now ≡ k * width
+  whole = s.requires.positions_value.3 ∙ mul_assoc k s.args.p.a s.args.p.s
+
+  large : k * width ≤ 40960
+  large = omega (arith, mul_assoc k s.args.p.a s.args.p.s, data_bound s.args.p s.requires.accepted.0)
+
+  -- the column of a named node lies within them
+  column : (m : ℕ) → m < k → m * width + width ≤ k * width
+  column m h = room m k width h
+
+  -- the node's part lies within the table
+  inside : s.args.j * k + k ≤ 576
+  inside = omega (arith, room s.args.j s.args.p.n k s.requires.accepted.2, table_bound s.args.p s.requires.accepted.0)
+
+  -- what is lent of the table
+  part : (w : ℕ) → w ≡ k → take w (drop (s.args.j * k) s.args.table.now) ≡ weight_row k s.args.nodes.now s.args.j
+  part w e =
+      ap (λ (m : ℕ). take m (drop (s.args.j * k) s.args.table.now)) e
+      ∙ ap (λ (l : List ℕ). take k (drop (s.args.j * k) l)) s.requires.positions_value.1
+      ∙ row_at s.args.p s.requires.accepted.0 s.args.nodes.now s.requires.accepted.1 s.args.j s.requires.accepted.2
+
+pub overflow_mul-width : goal.overflow_mul-width
+overflow_mul-width c =
+    omega (arith, column_bound c.args.p c.requires.accepted.0)
+
+pub bounds-positions-j : goal.bounds-positions-j
+bounds-positions-j c =
+    omega (arith, below (goal.at.bounds-positions-j c).Start, ap length c.requires.positions_value.0 ∙ table_length c.args.nodes.now)
+
+pub overflow_cast-at : goal.overflow_cast-at
+overflow_cast-at c = omega (arith, c.type_inv.positions c.args.j)
+
+pub overflow_mul-at : goal.overflow_mul-at
+overflow_mul-at c =
+    omega (arith, large (goal.at.overflow_mul-at c).Start, column (goal.at.overflow_mul-at c).Start _ c.if-at-k.true)
+
+pub copy-requires : goal.copy-requires
+copy-requires c =
+    omega (arith, column (goal.at.copy-requires c).Start _ c.if-at-k.true, whole (goal.at.copy-requires c).Start, c.requires.positions_value.2)
+
+pub returns-then-at-k : goal.returns-then-at-k
+unfolding base_column
+returns-then-at-k c =
+    let nodes = c.args.nodes.now in
+    let near : position_in nodes c.args.j < k (goal.at.returns-then-at-k c).Start = omega (arith, position (goal.at.returns-then-at-k c).Start, c.if-at-k.true) in
+    c.copy.ensures
+    ∙ ap₂ (λ (m w : ℕ). strip_at c.args.y.now (m * width (goal.at.returns-then-at-k c).Start) w) (position (goal.at.returns-then-at-k c).Start) c.requires.positions_value.2
+    ∙ sym (ap (λ b. cond b (strip_at c.args.y.now (position_in nodes c.args.j * width (goal.at.returns-then-at-k c).Start) (width (goal.at.returns-then-at-k c).Start))
+    (combination_of (weight_row (k (goal.at.returns-then-at-k c).Start) nodes c.args.j) c.args.y.now 0 (width (goal.at.returns-then-at-k c).Start) (width (goal.at.returns-then-at-k c).Start))) (lt-ltb _ _ near))
+
+pub overflow_mul-from : goal.overflow_mul-from
+overflow_mul-from c = omega (arith, inside (goal.at.overflow_mul-from c).Start)
+
+pub overflow_add-end : goal.overflow_add-end
+overflow_add-end c = omega (arith, inside (goal.at.overflow_add-end c).Start)
+
+pub slice_bounds-combine-end : goal.slice_bounds-combine-end
+slice_bounds-combine-end c =
+    omega (
+      arith,
+      inside (goal.at.slice_bounds-combine-end c).Start,
+      ap length c.requires.positions_value.1
+          ∙ weight_table_length c.args.p c.requires.accepted.0 c.args.nodes.now c.requires.accepted.1,
+    )
+
+pub combine-requires : goal.combine-requires
+combine-requires c =
+    let few : k (goal.at.combine-requires c).Start ≤ 24 = omega (arith, c.requires.accepted.0.shape.some_parity, c.requires.accepted.0.shape.few_nodes) in
+    let size = ap length (part (goal.at.combine-requires c).Start (c.args.j * k (goal.at.combine-requires c).Start + k (goal.at.combine-requires c).Start - c.args.j * k (goal.at.combine-requires c).Start) (omega arith))
+    ∙ row_length (k (goal.at.combine-requires c).Start) c.args.nodes.now c.args.j (risen_length c.requires.accepted.1) in
+    record {
+      few = omega (arith, size, few);
+      short = omega (arith, c.requires.positions_value.2, column_bound c.args.p c.requires.accepted.0);
+      reach = λ q h. omega (arith, column (goal.at.combine-requires c).Start q (omega (arith, size, h)), whole (goal.at.combine-requires c).Start, c.requires.positions_value.2);
+    }
+
+pub returns : goal.returns
+unfolding base_column
+returns c =
+    let nodes = c.args.nodes.now in
+    let far : k (goal.at.returns c).Start ≤ position_in nodes c.args.j = omega (arith, position (goal.at.returns c).Start, c.if-at-k.false) in
+    c.combine.ensures
+    ∙ ap₂ (λ (l : List ℕ) (m : ℕ). combination_of l c.args.y.now 0 (width (goal.at.returns c).Start) m)
+    (part (goal.at.returns c).Start (c.args.j * k (goal.at.returns c).Start + k (goal.at.returns c).Start - c.args.j * k (goal.at.returns c).Start) (omega arith)) c.requires.positions_value.2
+    ∙ sym (ap (λ b. cond b (strip_at c.args.y.now (position_in nodes c.args.j * width (goal.at.returns c).Start) (width (goal.at.returns c).Start))
+    (combination_of (weight_row (k (goal.at.returns c).Start) nodes c.args.j) c.args.y.now 0 (width (goal.at.returns c).Start) (width (goal.at.returns c).Start))) (le-ltb _ _ far))

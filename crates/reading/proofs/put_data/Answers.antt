@@ -1,0 +1,30 @@
+-- `reading::put_data` meets its contract.
+use mathlib.Core.Path.{sym, ◌∙◌}
+use Prim.Native.Nat.{◌≤◌}
+use native.Mathlib.Omega.{arith}
+use borrow.Author.Rules.{rules}
+use lib.ListN.{length}
+use lib.Seq.{length-take-le}
+use Rattle.document.proofs.Bounds.{data_bound}
+use Rattle.reading.proofs.put_data.Goals.{After-put_data_in-arg-1, Start}
+use Rattle.reading.proofs.put_data.Goals as goal
+
+few : (c : After-put_data_in-arg-1) → length c.args.out.now ≤ 40960
+few c = omega (arith, c.requires.columns_len.1, data_bound c.args.p c.requires.accepted.0)
+
+pub slice_bounds-y-end : goal.slice_bounds-y-end
+slice_bounds-y-end c = (omega (arith, c.requires.columns_len.1, data_bound c.args.p c.requires.accepted.0))
+
+pub slice_bounds-put_data_in-end : goal.slice_bounds-put_data_in-end
+slice_bounds-put_data_in-end c = sym (length-take-le _ _ ((omega (arith, c.requires.columns_len.1, data_bound c.args.p c.requires.accepted.0))))
+
+pub put_data_in-requires : goal.put_data_in-requires
+put_data_in-requires c =
+    record {
+      accepted = c.requires.accepted;
+      table_value = c.requires.table_value;
+      columns_len = (c.requires.columns_len.0, c.requires.columns_len.1, sym (slice_bounds-put_data_in-end c) ∙ c.requires.columns_len.1);
+    }
+
+pub returns : goal.returns
+returns c = c.put_data_in.ensures

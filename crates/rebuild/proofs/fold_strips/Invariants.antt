@@ -1,0 +1,26 @@
+-- `rebuild::fold_strips` meets its contract. The invariant: the strips of the nodes passed are folded, and m counts
+-- their places.
+use mathlib.Core.Path.{◌≡◌, refl, sym, ap, subst, ◌∙◌}
+use Prim.Native.Nat.{◌+◌, ◌-◌, ◌*◌, ◌≤◌, zero-le}
+use native.Mathlib.Omega.{arith}
+use borrow.Author.Rules.{rules}
+use lib.ListN.{length, get_or, take, length-append, length-take, length-drop}
+use lib.Seq.{take_all}
+use Rattle.document.specs.declared.Profile.{Profile}
+use Rattle.document.specs.Plan.{planned}
+use Rattle.document.specs.Rebuild.{given_at}
+use Rattle.document.proofs.Bounds.{room}
+use Rattle.plan.specs.Steps.{places_of}
+use Rattle.plan.proofs.Places.{next_places}
+use Rattle.rebuild.specs.Folded.{folded_of, NodeAt}
+use Rattle.rebuild.proofs.Folded.{none_folded, next_strip}
+use Rattle.rebuild.proofs.Given.{node_at}
+use Rattle.rebuild.proofs.fold_strips.Given as goal
+
+abbrev pub invariant-loop-i : goal.invariant-loop-i
+invariant-loop-i l =
+    (l.i ≤ length l.nodes) × (length l.out ≡ length l.nodes * l.p.s) × (l.m ≡ length (places_of l.p.a l.f (take l.i l.nodes)))
+    × (take (l.i * l.p.s) l.out ≡ folded_of l.p l.f (given_at (planned l.p l.f) l.src l.first l.stride) (take l.i l.nodes))
+
+abbrev pub decreases-loop-i : goal.decreases-loop-i
+decreases-loop-i l = length l.nodes - l.i

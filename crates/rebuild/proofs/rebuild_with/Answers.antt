@@ -1,0 +1,42 @@
+-- `rebuild::rebuild_with` meets its contract: each return is the answer of the tests that led there, and a bundle that
+-- passes has the strips of the plan.
+use mathlib.Core.Path.{sym, ap₂, ◌∙◌}
+use Prim.Native.Nat.{◌<◌}
+use native.Mathlib.Omega.{arith}
+use borrow.Author.Rules.{rules}
+use Rattle.document.specs.Rebuild.{rebuilt_of}
+use Rattle.document.proofs.Bounds.{column_bound}
+use Rattle.rebuild.proofs.Answers.{node_refused, column_refused, bundle_refused, bundle_done, strips_fit}
+use Rattle.rebuild.proofs.rebuild_with.Goals.{After-check-answer, Else-f-p, Start}
+use Rattle.rebuild.proofs.rebuild_with.Goals as goal
+
+-- past the test of the lost node
+module _ (c : Else-f-p) where
+  known : c.args.f.0 < c.args.p.n
+  known = omega (arith, c.if-f-p.false)
+
+pub returns-then-f-p : goal.returns-then-f-p
+returns-then-f-p c = node_refused _ _ _ _ _ c.if-f-p.true
+
+pub overflow_mul-p : goal.overflow_mul-p
+overflow_mul-p c = omega (arith, column_bound _ c.requires)
+
+pub returns-then-column-p : goal.returns-then-column-p
+returns-then-column-p c = column_refused _ _ _ _ _ (known (goal.at.returns-then-column-p c).Else-f-p) c.if-column-p.true
+
+pub rebuild_column-requires : goal.rebuild_column-requires
+rebuild_column-requires c =
+    record {
+      accepted = (c.requires, known (goal.at.rebuild_column-requires c).Else-f-p, c.if-column-p.false);
+      strips_fit = rw (c.strip_stride-stride.ensures, c.first_strip-first.ensures)
+          (strips_fit _ _ c.args.r _ (sym c.check-answer.ensures ∙ c.enum_told.given.1));
+    }
+
+pub returns-in-Refused : goal.returns-in-Refused
+returns-in-Refused c =
+    bundle_refused _ _ _ _ _ (known (goal.at.returns-in-Refused c).Else-f-p) c.if-column-p.false c.check-answer.ensures c.answer.given.1
+
+pub returns-in-Done : goal.returns-in-Done
+returns-in-Done c =
+    bundle_done _ _ _ _ _ (known (goal.at.returns-in-Done c).Else-f-p) c.if-column-p.false c.check-answer.ensures c.enum_told.given.1
+    (c.rebuild_column.ensures ∙ ap₂ (rebuilt_of _ _ _) c.first_strip-first.ensures c.strip_stride-stride.ensures)
