@@ -11,11 +11,10 @@ use Rattle.reading.proofs.Partners.{completed_none, completed_next}
 use Rattle.reading.proofs.complete.Goals.{In-loop-e, Start}
 use Rattle.reading.proofs.complete.Goals as goal
 
--- the checker names the lines `t6`
 pub loop-e-init : goal.loop-e-init
 loop-e-init c =
     let a = c.args in
-    (omega arith, refl, completed_none a.p a.nodes.now a.t6 a.r.now a.y.now)
+    (omega arith, refl, completed_none a.p a.nodes.now a.lines a.r.now a.y.now)
 
 -- in a turn
 module _ (c : In-loop-e) where
@@ -54,8 +53,8 @@ loop-e-preserved c =
       omega (arith, c.loop-e-test.true),
       search rules,
       c.complete_strip.ensures
-          ∙ ap (completed_strip a.p a.nodes.now (line_at a.t6 l.e) a.r.now l.e) l.invariant.2
-          ∙ completed_next a.p a.nodes.now a.t6 a.r.now a.y.now l.e,
+          ∙ ap (completed_strip a.p a.nodes.now (line_at a.lines l.e) a.r.now l.e) l.invariant.2
+          ∙ completed_next a.p a.nodes.now a.lines a.r.now a.y.now l.e,
     )
 
 pub shape_of-y : goal.shape_of-y
@@ -66,4 +65,4 @@ returns c =
     let l = c.loop-e in
     let a = c.args in
     let done : l.e ≡ length a.halves.now = omega (arith, c.loop-e-test.false, l.invariant.0) in
-    l.invariant.2 ∙ ap (λ (e : ℕ). completed a.p a.nodes.now a.t6 a.r.now e a.y.now) done
+    l.invariant.2 ∙ ap (λ (e : ℕ). completed a.p a.nodes.now a.lines a.r.now e a.y.now) done

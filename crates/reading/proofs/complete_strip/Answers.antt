@@ -90,18 +90,6 @@ slice_bounds-c-end c = omega (arith, few (goal.at.slice_bounds-c-end c).Start, l
 pub slice_bounds-combine-end-2 : goal.slice_bounds-combine-end-2
 slice_bounds-combine-end-2 c = sym (length-take-le _ _ ((omega (arith, few (goal.at.slice_bounds-combine-end-2 c).Start, line_length (goal.at.slice_bounds-combine-end-2 c).Start))))
 
-pub combine-requires : goal.combine-requires
-combine-requires c =
-    let count = slice_bounds-combine-end-2 c in
-    let lent = (sym (length-take-le _ _ ((search rules)))) in
-    record {
-      few = omega (arith, count, few (goal.at.combine-requires c).Start);
-      short = omega (arith, lent, c.requires.accepted.0.short);
-      reach = λ q h.
-          let r = room q (length c.args.halves.now) (p (goal.at.combine-requires c).Start).s (omega (arith, count)) in
-          omega (arith, lent, r, c.requires.e_in_bounds.2);
-    }
-
 -- the partner, in the front of the array
 module _ (c : After-combine) where
   abbrev u : List ℕ

@@ -40,7 +40,10 @@ module _ (c : In-loop-j) where
   inside = omega (arith, room c.loop-j.j c.args.p.k ((c.args.p.a * c.args.p.s)) c.loop-j-test.true, c.loop-j.invariant.1)
 
   bound : at + (c.args.p.a * c.args.p.s) ≤ 40960
-  bound = omega (arith, inside, c.loop-j.invariant.1, (omega (arith, mul_assoc c.args.p.k c.args.p.a c.args.p.s, data_bound c.args.p c.requires.accepted.0)))
+  bound =
+      let most : c.args.p.k * (c.args.p.a * c.args.p.s) ≤ 40960 =
+      omega (arith, mul_assoc c.args.p.k c.args.p.a c.args.p.s, data_bound c.args.p c.requires.accepted.0) in
+      omega (arith, inside, c.loop-j.invariant.1, most)
 
   lent_size : length (take (at + (c.args.p.a * c.args.p.s) - at) (drop at c.loop-j.out)) ≡ (c.args.p.a * c.args.p.s)
   lent_size = simp (length-take, length-drop) (omega (arith, inside))
