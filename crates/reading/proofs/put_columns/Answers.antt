@@ -10,7 +10,7 @@ use Rattle.lists.proofs.Parts.{parts, none_parts, next_part}
 use Rattle.document.proofs.Bounds.{room, column_bound, data_bound}
 use Rattle.reading.specs.Steps.{base_column, base_columns}
 use Rattle.reading.proofs.Columns.{column_length}
-use Rattle.reading.proofs.put_columns.Goals.{After-struct_known-1, In-loop-j, Start}
+use Rattle.reading.proofs.put_columns.Goals.{In-loop-j, Start}
 use Rattle.reading.proofs.put_columns.Goals as goal
 
 pub overflow_mul-width : goal.overflow_mul-width

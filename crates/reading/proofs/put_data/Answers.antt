@@ -6,11 +6,7 @@ use borrow.Author.Rules.{rules}
 use lib.ListN.{length}
 use lib.Seq.{length-take-le}
 use Rattle.document.proofs.Bounds.{data_bound}
-use Rattle.reading.proofs.put_data.Goals.{After-put_data_in-arg-1, Start}
 use Rattle.reading.proofs.put_data.Goals as goal
-
-few : (c : After-put_data_in-arg-1) → length c.args.out.now ≤ 40960
-few c = omega (arith, c.requires.columns_len.1, data_bound c.args.p c.requires.accepted.0)
 
 pub slice_bounds-y-end : goal.slice_bounds-y-end
 slice_bounds-y-end c = (omega (arith, c.requires.columns_len.1, data_bound c.args.p c.requires.accepted.0))

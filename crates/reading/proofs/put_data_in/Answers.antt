@@ -17,6 +17,14 @@ use Rattle.reading.specs.Steps.{known_strips, known_partner_strips, completed, b
 use Rattle.reading.proofs.put_data_in.Goals.{After-known_partners, After-known_strips, Start}
 use Rattle.reading.proofs.put_data_in.Goals as goal
 
+-- the partners' strips are no more than all strips
+few : (p : Profile) (nodes halves : List ℕ) → halves ≡ half_pairs p nodes → length halves * p.s ≤ p.k * p.a * p.s
+unfolding half_pairs
+few p nodes halves e =
+    let size : length halves ≡ length (half_pairs p nodes) = ap length e in
+    let short = rising_length (λ z. not (is_named p.k nodes (partner_at p nodes z).node.0)) (p.k * p.a) in
+    mul-le-mul_right p.s (omega (arith, size, short))
+
 module _ (s : Start) where
   abbrev p : Profile
   p = s.args.p
@@ -27,23 +35,24 @@ module _ (s : Start) where
   abbrev columns : List ℕ
   columns = s.args.columns.now
 
-  -- the partners' strips are no more than all strips
-  few : length s.args.halves.now * p.s ≤ p.k * p.a * p.s
-  unfolding half_pairs
-  few =
-      let size : length s.args.halves.now ≡ length (half_pairs p nodes) = ap length s.requires.table_value.1 in
-      let short = rising_length (λ z. not (is_named p.k nodes (partner_at p nodes z).node.0)) (p.k * p.a) in
-      mul-le-mul_right p.s (omega (arith, size, short))
-
 pub overflow_mul-partners : goal.overflow_mul-partners
 overflow_mul-partners c =
-    omega (arith, few (goal.at.overflow_mul-partners c).Start, data_bound (p (goal.at.overflow_mul-partners c).Start) c.requires.accepted.0)
+    omega (
+      arith,
+      few c.args.p c.args.nodes.now c.args.halves.now c.requires.table_value.1,
+      data_bound c.args.p c.requires.accepted.0,
+    )
 
 -- past the known strips
 module _ (c : After-known_strips) where
   -- the strips fit the output
-  room : length c.args.halves.now * ((c.args.p)).s ≤ length c.args.out.now
-  room = omega (arith, (let size : length c.args.halves.now ≡ length (half_pairs ((c.args.p)) ((c.args.nodes.now))) = ap length c.requires.table_value.1 in let short = rising_length (λ z. not (is_named ((c.args.p)).k ((c.args.nodes.now)) (partner_at ((c.args.p)) ((c.args.nodes.now)) z).node.0)) (((c.args.p)).k * ((c.args.p)).a) in mul-le-mul_right ((c.args.p)).s (omega (arith, size, short))), c.requires.columns_len.1)
+  room : length c.args.halves.now * c.args.p.s ≤ length c.args.out.now
+  room =
+      omega (
+        arith,
+        few c.args.p c.args.nodes.now c.args.halves.now c.requires.table_value.1,
+        c.requires.columns_len.1,
+      )
 
 pub slice_bounds-known_partners-end : goal.slice_bounds-known_partners-end
 slice_bounds-known_partners-end c = room (goal.at.slice_bounds-known_partners-end c).After-known_strips
@@ -61,23 +70,32 @@ known_partners-requires c =
 -- past the partners' strips
 module _ (c : After-known_partners) where
   abbrev size : ℕ
-  size = length c.args.halves.now * ((c.args.p)).s
+  size = length c.args.halves.now * c.args.p.s
 
   made : c.known_partners.new.out
-      ≡ known_partner_strips ((c.args.p)) ((c.args.nodes.now)) (known_strips ((c.args.p)) ((c.args.nodes.now)) ((c.args.columns.now)))
-  made = c.known_partners.ensures ∙ ap (known_partner_strips ((c.args.p)) ((c.args.nodes.now))) c.known_strips.ensures
+      ≡ known_partner_strips c.args.p c.args.nodes.now (known_strips c.args.p c.args.nodes.now c.args.columns.now)
+  made = c.known_partners.ensures ∙ ap (known_partner_strips c.args.p c.args.nodes.now) c.known_strips.ensures
+
+  -- the strips fit the output
+  fit : size ≤ length c.args.out.now
+  fit =
+      omega (
+        arith,
+        few c.args.p c.args.nodes.now c.args.halves.now c.requires.table_value.1,
+        c.requires.columns_len.1,
+      )
 
   written : length c.known_partners.new.out ≡ size
-  written = c.known_partners.auto.out ∙ length-take-le _ _ ((omega (arith, (let size : length c.args.halves.now ≡ length (half_pairs ((c.args.p)) ((c.args.nodes.now))) = ap length c.requires.table_value.1 in let short = rising_length (λ z. not (is_named ((c.args.p)).k ((c.args.nodes.now)) (partner_at ((c.args.p)) ((c.args.nodes.now)) z).node.0)) (((c.args.p)).k * ((c.args.p)).a) in mul-le-mul_right ((c.args.p)).s (omega (arith, size, short))), c.requires.columns_len.1)))
+  written = c.known_partners.auto.out ∙ length-take-le _ _ fit
 
   lent : take size (c.known_partners.new.out ++ drop size c.args.out.now) ≡ c.known_partners.new.out
   lent = front c.known_partners.new.out _ written
 
   -- the output has the length that it had
-  whole : length (c.known_partners.new.out ++ drop size c.args.out.now) ≡ ((c.args.p)).k * ((c.args.p)).a * ((c.args.p)).s
+  whole : length (c.known_partners.new.out ++ drop size c.args.out.now) ≡ c.args.p.k * c.args.p.a * c.args.p.s
   whole =
       length-append c.known_partners.new.out (drop size c.args.out.now)
-      ∙ omega (arith, written, length-drop size c.args.out.now, (omega (arith, (let size : length c.args.halves.now ≡ length (half_pairs ((c.args.p)) ((c.args.nodes.now))) = ap length c.requires.table_value.1 in let short = rising_length (λ z. not (is_named ((c.args.p)).k ((c.args.nodes.now)) (partner_at ((c.args.p)) ((c.args.nodes.now)) z).node.0)) (((c.args.p)).k * ((c.args.p)).a) in mul-le-mul_right ((c.args.p)).s (omega (arith, size, short))), c.requires.columns_len.1)), c.requires.columns_len.1)
+      ∙ omega (arith, written, length-drop size c.args.out.now, fit, c.requires.columns_len.1)
 
 pub slice_bounds-complete-end : goal.slice_bounds-complete-end
 slice_bounds-complete-end c =

@@ -15,12 +15,6 @@ use Rattle.reading.proofs.Data.{data_by_lem}
 use Rattle.reading.proofs.read_from.Goals.{After-invert-e, After-of_nodes-h, Start}
 use Rattle.reading.proofs.read_from.Goals as goal
 
-pub of_nodes-h-requires : goal.of_nodes-h-requires
-of_nodes-h-requires c = search rules
-
-pub small_system-s-requires : goal.small_system-s-requires
-small_system-s-requires c = search rules
-
 pub invert-e-requires : goal.invert-e-requires
 invert-e-requires c =
     let few = count_few c.of_nodes-h.ensures c.requires.accepted.0 c.requires.accepted.1 in
@@ -31,18 +25,6 @@ module _ (c : After-invert-e) where
   inverted : c.invert-e.result ≡ system_end c.args.p c.args.nodes.now
   inverted =
       c.invert-e.ensures ∙ system_end_lem c.of_nodes-h.ensures c.small_system-s.ensures
-
-pub enum_told-1 : goal.enum_told-1
-enum_told-1 c = search rules
-
-pub enum_told-in-Regular : goal.enum_told-in-Regular
-enum_told-in-Regular c = search rules
-
-pub slice_bounds-put_data-end : goal.slice_bounds-put_data-end
-slice_bounds-put_data-end c = search rules
-
-pub slice_bounds-put_data-end-in-Regular : goal.slice_bounds-put_data-end-in-Regular
-slice_bounds-put_data-end-in-Regular c = search rules
 
 pub slice_bounds-halves-end : goal.slice_bounds-halves-end
 slice_bounds-halves-end c =
@@ -63,11 +45,8 @@ put_data-requires c =
 pub returns-in-Singular : goal.returns-in-Singular
 unfolding reading_answer
 returns-in-Singular c =
-    let h = sym (ap (λ (r : Eliminated). r.verdict) (inverted (goal.at.returns-in-Singular c).After-invert-e)) ∙ c.enum_told.given.1 in
+    let h = sym (ap (λ (r : Eliminated). r.verdict) (inverted (goal.at.returns-in-Singular c).After-invert-e)) ∙ c.in-Singular.is in
     rw (stuck_ambiguous c.args.p c.args.nodes.now c.requires.accepted.0 c.requires.accepted.1 _ h)
-
-pub shape_of-output : goal.shape_of-output
-shape_of-output c = search rules
 
 pub returns-in-Regular : goal.returns-in-Regular
 unfolding reading_answer
