@@ -1,10 +1,8 @@
 -- `reading::accepts_list` meets its contract. The invariant: the list is accepted exactly if what is left of it is,
 -- from the lowest number on that may come next.
 use mathlib.Core.Path.{◌≡◌, sym, ap, ◌∙◌}
-use Prim.Native.Nat.{ℕ, ◌-◌, ◌≤◌}
+use Prim.Native.Nat.{ℕ, ◌-◌}
 use native.Mathlib.Omega.{arith}
-use borrow.Author.Rules.{rules}
-use lib.ListN.{length, drop}
 use Rattle.document.specs.Reading.{list_accepted}
 use Rattle.reading.proofs.NodeLists.{list_length, too_low, too_high, next_entry, all_entries}
 use Rattle.reading.proofs.accepts_list.Goals as goal

@@ -1,12 +1,9 @@
 -- `reading::accepts_list` meets its contract. The invariant: the list is accepted exactly if what is left of it is,
 -- from the lowest number on that may come next.
-use mathlib.Core.Path.{◌≡◌, sym, ap, ◌∙◌}
-use Prim.Native.Nat.{ℕ, ◌-◌, ◌≤◌}
-use native.Mathlib.Omega.{arith}
-use borrow.Author.Rules.{rules}
+use mathlib.Core.Path.{◌≡◌}
+use Prim.Native.Nat.{◌-◌, ◌≤◌}
 use lib.ListN.{length, drop}
 use Rattle.document.specs.Reading.{list_accepted}
-use Rattle.reading.proofs.NodeLists.{list_length, too_low, too_high, next_entry, all_entries}
 use Rattle.reading.proofs.accepts_list.Given as goal
 
 abbrev pub invariant-loop-i : goal.invariant-loop-i

@@ -1,13 +1,8 @@
 -- `reading::complete` meets its contract. The invariant: the half pairs before e are completed.
-use mathlib.Core.Path.{◌≡◌, refl, ap, ◌∙◌}
-use Prim.Native.Nat.{ℕ, ◌-◌, ◌≤◌}
-use native.Mathlib.Omega.{arith}
-use borrow.Author.Rules.{rules}
+use mathlib.Core.Path.{◌≡◌}
+use Prim.Native.Nat.{◌-◌, ◌≤◌}
 use lib.ListN.{length}
-use Rattle.square.specs.Steps.{line_at}
-use Rattle.half_pairs.proofs.System.{few_halves}
-use Rattle.reading.specs.Steps.{completed_strip, completed}
-use Rattle.reading.proofs.Partners.{completed_none, completed_next}
+use Rattle.reading.specs.Steps.{completed}
 use Rattle.reading.proofs.complete.Given as goal
 
 abbrev pub invariant-loop-e : goal.invariant-loop-e

@@ -1,15 +1,9 @@
 -- `reading::known_strips` meets its contract. The invariant: the strips before z are written.
-use mathlib.Core.Path.{◌≡◌, sym, subst, ◌∙◌}
-use Prim.Native.Nat.{ℕ, ◌+◌, ◌-◌, ◌*◌, ◌≤◌}
-use native.Mathlib.Omega.{arith}
-use borrow.Author.Rules.{rules}
-use lib.ListN.{length, take, drop, length-take, length-drop}
-use lib.Seq.{take_all}
-use Rattle.lists.proofs.Parts.{parts, none_parts, next_part}
-use Rattle.document.specs.declared.Profile.{Profile}
-use Rattle.document.proofs.Bounds.{room, square_bound, data_bound}
-use Rattle.reading.specs.Steps.{known_strip, known_strips}
-use Rattle.reading.proofs.Known.{known_length}
+use mathlib.Core.Path.{◌≡◌}
+use Prim.Native.Nat.{◌-◌, ◌*◌, ◌≤◌}
+use lib.ListN.{length, take}
+use Rattle.lists.proofs.Parts.{parts}
+use Rattle.reading.specs.Steps.{known_strip}
 use Rattle.reading.proofs.known_strips.Given as goal
 
 abbrev pub invariant-loop-z : goal.invariant-loop-z

@@ -5,7 +5,6 @@ use mathlib.Core.List.{List}
 use Prim.Native.Nat.{ℕ, ◌+◌, ◌-◌, ◌*◌, ◌≤◌, ◌<◌}
 use native.Mathlib.Nat.{mul_assoc}
 use native.Mathlib.Omega.{arith}
-use borrow.Author.Rules.{rules}
 use lib.ListN.{length, get_or, take, drop}
 use borrow.Author.Tests.{lt-ltb, le-ltb}
 use Rattle.ksets.proofs.Ranked.{risen_length}
@@ -16,7 +15,7 @@ use Rattle.half_pairs.specs.HalfPairs.{weight_row}
 use Rattle.half_pairs.proofs.Named.{table_length, table_at}
 use Rattle.half_pairs.proofs.Table.{row_length, row_at, weight_table_length}
 use Rattle.reading.specs.Steps.{base_column}
-use Rattle.reading.proofs.put_column.Goals.{After-shared_slice_known-5-1, Start}
+use Rattle.reading.proofs.put_column.Goals.{Start}
 use Rattle.reading.proofs.put_column.Goals as goal
 
 module _ (s : Start) where

@@ -1,9 +1,6 @@
 -- `reading::put_data` meets its contract.
 use mathlib.Core.Path.{sym, ◌∙◌}
-use Prim.Native.Nat.{◌≤◌}
 use native.Mathlib.Omega.{arith}
-use borrow.Author.Rules.{rules}
-use lib.ListN.{length}
 use lib.Seq.{length-take-le}
 use Rattle.document.proofs.Bounds.{data_bound}
 use Rattle.reading.proofs.put_data.Goals as goal

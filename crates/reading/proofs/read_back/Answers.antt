@@ -1,6 +1,5 @@
 -- `reading::read_back` meets its contract: the head of a call.
 use mathlib.Core.Path.{sym, ◌∙◌}
-use borrow.Author.Rules.{rules}
 use Rattle.document.specs.Reading.{read_of}
 use Rattle.document.proofs.Accepts.{accepted, rejected, passed}
 use Rattle.reading.proofs.read_back.Goals as goal

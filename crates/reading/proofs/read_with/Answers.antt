@@ -2,8 +2,6 @@
 use mathlib.Core.Path.{◌≡◌, sym, ◌∙◌}
 use mathlib.Core.Bool.{true}
 use native.Mathlib.Omega.{arith}
-use borrow.Author.Rules.{rules}
-use borrow.Author.Tests.{not-true, not-false}
 use Rattle.document.specs.Reading.{list_accepted}
 use Rattle.document.proofs.Bounds.{square_bound, data_bound}
 use Rattle.document.proofs.NodeLists.{decides_list_accepted}
