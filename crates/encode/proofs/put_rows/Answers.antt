@@ -16,7 +16,7 @@ use Rattle.lists.proofs.Lent.{front_fits, front}
 use Rattle.coefficients.proofs.Lagrange.{denominators_length}
 use Rattle.coefficients.proofs.Data.{data_length}
 use Rattle.encode.proofs.Rows.{data_columns, first_columns, next_column, all_columns}
-use Rattle.encode.proofs.put_rows.Goals.{After-copy, After-copy-arg-1, After-data_denominators, In-loop-j, Start}
+use Rattle.encode.proofs.put_rows.Goals.{After-data_denominators, In-loop-j, Start}
 use Rattle.encode.proofs.put_rows.Goals as goal
 
 -- the data's columns, and so their bytes, are within the array
@@ -29,6 +29,15 @@ within c =
 
 few : (c : Start) → c.args.p.k ≤ 24
 few c = omega (arith, c.requires.accepted.shape)
+
+-- the data's columns are as long as the input
+data_size : (c : Start)
+    → let p = c.args.p in
+    length c.args.input.now ≡ length (take (p.k * (p.a * p.s)) c.args.array.now)
+data_size c =
+    let p = c.args.p in
+    let fits : p.k * (p.a * p.s) ≤ length c.args.array.now = omega (arith, within c, c.requires.input_len.1) in
+    c.requires.input_len.0 ∙ mul_assoc p.k p.a p.s ∙ sym (length-take-le _ _ fits)
 
 pub overflow_mul-width : goal.overflow_mul-width
 overflow_mul-width c = omega (arith, column_bound c.args.p c.requires.accepted)
@@ -66,23 +75,11 @@ slice_bounds-copy-end c =
     omega (arith, within (goal.at.slice_bounds-copy-end c).Start, c.requires.input_len.1)
 
 pub slice_bounds-copy-end-2 : goal.slice_bounds-copy-end-2
-slice_bounds-copy-end-2 c = sym (length-take-le _ _ ((omega (arith, within (goal.at.slice_bounds-copy-end-2 c).Start, c.requires.input_len.1))))
-
--- the data'c columns are as long as the input
-data_size : (c : After-copy-arg-1)
-    →
-    let p = c.args.p in
-    length c.args.input.now ≡ length (take (p.k * (p.a * p.s)) c.args.array.now)
-data_size c =
-    let p = c.args.p in
-    c.requires.input_len.0 ∙ mul_assoc p.k p.a p.s ∙ (sym (length-take-le _ _ ((omega (arith, (let p = c.args.p in omega (arith, room p.k p.n (p.a * p.s) c.requires.accepted.shape.some_parity, mul_assoc p.n p.a p.s)), c.requires.input_len.1)))))
+slice_bounds-copy-end-2 c =
+    sym (length-take-le _ _ (omega (arith, within (goal.at.slice_bounds-copy-end-2 c).Start, c.requires.input_len.1)))
 
 pub copy-requires : goal.copy-requires
-copy-requires c = omega (arith, (let p = c.args.p in c.requires.input_len.0 ∙ mul_assoc p.k p.a p.s ∙ (sym (length-take-le _ _ ((omega (arith, (let p = c.args.p in omega (arith, room p.k p.n (p.a * p.s) c.requires.accepted.shape.some_parity, mul_assoc p.n p.a p.s)), c.requires.input_len.1)))))))
-
-copied : (c : After-copy)
-    → c.copy.new.dst ≡ c.args.input.now
-copied c = c.copy.ensures ∙ strip_all _ _ (sym ((let p = c.args.p in c.requires.input_len.0 ∙ mul_assoc p.k p.a p.s ∙ (sym (length-take-le _ _ ((omega (arith, (let p = c.args.p in omega (arith, room p.k p.n (p.a * p.s) c.requires.accepted.shape.some_parity, mul_assoc p.n p.a p.s)), c.requires.input_len.1))))))))
+copy-requires c = omega (arith, data_size (goal.at.copy-requires c).Start)
 
 pub loop-j-init : goal.loop-j-init
 loop-j-init c =
@@ -90,20 +87,21 @@ loop-j-init c =
     let x = c.args.input.now in
     let first = p.k * (p.a * p.s) in
     let rest = drop first c.args.array.now in
-    let y = c.copy.new.dst in (
+    let y = c.copy.new.dst in
+    let copied : y ≡ x = c.copy.ensures ∙ strip_all _ _ (sym (data_size (goal.at.loop-j-init c).Start)) in (
       omega arith,
       omega (arith, c.requires.accepted.shape.some_parity),
       length-append y rest
           ∙ omega (
             arith,
-            ap length (copied (goal.at.loop-j-init c).After-copy),
+            ap length copied,
             c.requires.input_len,
             length-drop first c.args.array.now,
             within (goal.at.loop-j-init c).Start,
             mul_assoc p.k p.a p.s,
           ),
       first_columns p (base_at p x) p.k y rest
-          (copied (goal.at.loop-j-init c).After-copy
+          (copied
           ∙ data_columns p x c.requires.accepted c.requires.input_len.0 (λ e. omega (arith, c.type_inv.input e))),
     )
 
