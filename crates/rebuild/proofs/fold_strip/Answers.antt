@@ -48,7 +48,7 @@ module _ (c : After-copy) where
 module _ (t : Then-in_step) where
   off : is_off_diagonal t.args.p.a t.args.f t.args.j ≡ true
   unfolding in_step
-  off = sym t.in_step.ensures ∙ t.if-in_step.taken
+  off = sym t.in_step.ensures ∙ t.if-in_step.true
 
   two : t.args.m + 2 ≡ t.args.m + length (places_at t.args.p.a t.args.f t.args.j)
   two = two_places t.args.p.a t.args.f t.args.j t.args.m off
@@ -59,27 +59,33 @@ module _ (t : Then-in_step) where
   next_within : from + t.args.p.s ≤ length t.args.src.now
   next_within = t.requires.strips_fit.0.reach (t.args.m + 1) (omega (arith, t.requires.strips_fit.1.inside, two))
 
-  -- the partner't strip, as it is lent
+  -- the partner's strip, as it is lent
   abbrev lent : List ℕ
   lent = take (from + t.args.p.s - from) (drop from t.args.src.now)
 
   partner : lent ≡ strip_at t.args.src.now from t.args.p.s
   partner = strip_part t.args.src.now from t.args.p.s next_within
 
-  as_long : length lent ≡ length t.copy.last.0
+  -- the strip of place m, as it was copied
+  own : t.copy.new.dst ≡ strip_at t.args.src.now (t.args.first + t.args.m * t.args.stride) t.args.p.s
+  own =
+      t.copy.ensures ∙ ap (strip_at t.args.src.now (t.args.first + t.args.m * t.args.stride)) t.requires.accepted.2
+
+  as_long : length lent ≡ length t.copy.new.dst
   as_long =
-      ap length partner ∙ strip_length t.args.src.now from t.args.p.s ∙ sym ((ap length (copied c) ∙ strip_length c.args.src.now _ c.args.p.s))
+      ap length partner ∙ strip_length t.args.src.now from t.args.p.s
+      ∙ sym (ap length own ∙ strip_length t.args.src.now _ t.args.p.s)
 
   folded : {v : ℕ} {z : List ℕ}
       → v ≡ number (factor_at t.args.p (t.args.f.0 % t.args.p.a) (t.args.j % t.args.p.a))
-      → z ≡ added_scaled v 0 lent t.copy.last.0
+      → z ≡ added_scaled v 0 lent t.copy.new.dst
       → z ≡ folded_of t.args.p t.args.f
       (given_at (planned t.args.p t.args.f) t.args.src.now t.args.first t.args.stride)
       (t.args.j ∷ [])
   folded same e =
-      e ∙ ap (λ (v : ℕ). added_scaled v 0 lent t.copy.last.0) same
-      ∙ ap₂ (added_scaled _ 0) partner ((c.copy.ensures ∙ ap (strip_at c.args.src.now (c.args.first + c.args.m * c.args.stride)) c.requires.accepted.2))
-      ∙ pair_folded t.args.p t.requires.accepted.0 t.args.f t.requires.accepted.1 t.args.src.now (small t)
+      e ∙ ap (λ (v : ℕ). added_scaled v 0 lent t.copy.new.dst) same
+      ∙ ap₂ (added_scaled _ 0) partner own
+      ∙ pair_folded t.args.p t.requires.accepted.0 t.args.f t.requires.accepted.1 t.args.src.now (λ e. omega (arith, t.type_inv.src e))
       t.args.first t.args.stride t.args.j t.args.m t.requires.strips_fit.1 off
 
 pub overflow_mul-m : goal.overflow_mul-m

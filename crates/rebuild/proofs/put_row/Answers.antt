@@ -18,7 +18,7 @@ pub slice_bounds-coefficients-end : goal.slice_bounds-coefficients-end
 slice_bounds-coefficients-end c = search rules
 
 pub slice_bounds-row_coefficients-end : goal.slice_bounds-row_coefficients-end
-slice_bounds-row_coefficients-end c = sym (length-take-le _ _ ((search rules)))
+slice_bounds-row_coefficients-end c = search rules
 
 pub row_coefficients-requires : goal.row_coefficients-requires
 row_coefficients-requires c =
@@ -79,5 +79,5 @@ pub returns : goal.returns
 unfolding row_of
 returns c =
     c.sum_row.ensures
-    ∙ ap₂ (λ (at : ℕ) (cs : List ℕ). row_from c.args.p c.args.f c.args.i c cs c.args.folded.now)
+    ∙ ap₂ (λ (at : ℕ) (cs : List ℕ). row_from c.args.p c.args.f c.args.i at cs c.args.folded.now)
     c.position_of-at.ensures (lent (goal.at.returns c).After-row_coefficients)

@@ -29,14 +29,14 @@ rebuild_column-requires c =
     record {
       accepted = (c.requires, known (goal.at.rebuild_column-requires c).Else-f-p, c.if-column-p.false);
       strips_fit = rw (c.strip_stride-stride.ensures, c.first_strip-first.ensures)
-          (strips_fit _ _ c.args.r _ (sym c.check-answer.ensures ∙ c.enum_told.given.1));
+          (strips_fit _ _ c.args.r _ (sym c.check-answer.ensures ∙ c.in-Done.is));
     }
 
 pub returns-in-Refused : goal.returns-in-Refused
 returns-in-Refused c =
-    bundle_refused _ _ _ _ _ (known (goal.at.returns-in-Refused c).Else-f-p) c.if-column-p.false c.check-answer.ensures c.answer.given.1
+    bundle_refused _ _ _ _ _ (known (goal.at.returns-in-Refused c).Else-f-p) c.if-column-p.false c.check-answer.ensures c.in-Refused.is
 
 pub returns-in-Done : goal.returns-in-Done
 returns-in-Done c =
-    bundle_done _ _ _ _ _ (known (goal.at.returns-in-Done c).Else-f-p) c.if-column-p.false c.check-answer.ensures c.enum_told.given.1
+    bundle_done _ _ _ _ _ (known (goal.at.returns-in-Done c).Else-f-p) c.if-column-p.false c.check-answer.ensures c.in-Done.is
     (c.rebuild_column.ensures ∙ ap₂ (rebuilt_of _ _ _) c.first_strip-first.ensures c.strip_stride-stride.ensures)

@@ -7,12 +7,6 @@ use Rattle.half_pairs.proofs.System.{stuck_ambiguous, regular_clear, count_few, 
 use Rattle.survey.proofs.fails.Goals.{After-judge-verdict, Start}
 use Rattle.survey.proofs.fails.Goals as goal
 
-pub of_nodes-h-requires : goal.of_nodes-h-requires
-of_nodes-h-requires c = search rules
-
-pub small_system-lines-requires : goal.small_system-lines-requires
-small_system-lines-requires c = search rules
-
 pub judge-verdict-requires : goal.judge-verdict-requires
 judge-verdict-requires c =
     let few = count_few c.of_nodes-h.ensures c.requires.0 c.requires.1 in
@@ -26,17 +20,11 @@ module _ (c : After-judge-verdict) where
       ∙ ap (λ (e : Eliminated). e.verdict)
       (system_end_lem c.of_nodes-h.ensures c.small_system-lines.ensures)
 
-pub enum_told-1 : goal.enum_told-1
-enum_told-1 c = search rules
-
-pub enum_told-in-Regular : goal.enum_told-in-Regular
-enum_told-in-Regular c = search rules
-
 pub returns-in-Singular : goal.returns-in-Singular
 returns-in-Singular c =
     sym
     (stuck_ambiguous c.args.p c.args.set.now c.requires.0 c.requires.1 _
-    (sym (judged (goal.at.returns-in-Singular c).After-judge-verdict) ∙ c.enum_told.given.1))
+    (sym (judged (goal.at.returns-in-Singular c).After-judge-verdict) ∙ c.in-Singular.is))
 
 pub returns-in-Regular : goal.returns-in-Regular
 returns-in-Regular c =

@@ -62,7 +62,7 @@ module _ (c : After-first_failing-found) where
   size = c.first_failing-found.ensures.size
 
   whole : length (front_set ++ rest) ≡ 24
-  whole = simp (length-append, length-drop, length-replicate) (omega (arith, size, (omega (arith, c.requires.0.shape))))
+  whole = simp (length-append, length-drop, length-replicate) (omega (arith, size, c.requires.0.shape))
 
   -- what is copied of it is the set
   copied : (m : ℕ) → m ≡ k → strip_at (front_set ++ rest) 0 m ≡ front_set
