@@ -4,13 +4,9 @@ use Prim.Native.Nat.{ℕ, ◌+◌}
 use native.Mathlib.Omega.{arith}
 use lib.ListN.{replicate}
 use Rattle.rebuild_answer.specs.Room.{longest_input}
-use Rattle.rebuild_answer.proofs.input_buffer.Statement.{statement}
-use Rattle.rebuild_answer.proofs.input_buffer.Tie as tie
+use Rattle.rebuild_answer.proofs.input_buffer.Goals as goal
 
-returns : tie.Need-returns
+pub returns : goal.returns
 returns c =
     let room : 19908 ≡ longest_input + 1 = omega arith in
     ap (λ (n : ℕ). replicate n 0) room
-
-pub input-buffer-spec : {M : Type 1} → statement M
-input-buffer-spec = tie.close (tie.spec returns)

@@ -1,0 +1,64 @@
+-- `rebuild_answer::put_answer` meets its contract: the column stays where it was rebuilt; a refused rebuild changes no
+-- byte, and the line is written over what was there.
+use mathlib.Core.Path.{◌≡◌, refl, sym, ◌∙◌}
+use mathlib.Core.List.{◌++◌}
+use Prim.Native.Nat.{◌*◌, ◌≤◌, min}
+use native.Mathlib.Nat.{mul-le-mul}
+use native.Mathlib.Omega.{arith}
+use lib.ListN.{length, take, drop}
+use lib.Seq.{length-take-le, length_front}
+use borrow.Author.Rules.{rules}
+use Rattle.document.specs.Profile.{max_rows, max_strip}
+use Rattle.document.specs.Program.{wanted_numbers}
+use Rattle.rebuild_answer.proofs.Answers.{column_answered, line_answered, index_small}
+use Rattle.rebuild_answer.proofs.put_answer.Goals.{After-least-room, After-rebuild_input-outcome, Start}
+use Rattle.rebuild_answer.proofs.put_answer.Goals as goal
+
+pub overflow_mul-p : goal.overflow_mul-p
+overflow_mul-p c =
+    let n = c.numbers-p in
+    let bound : n.result.a * n.result.s ≤ 255 * 65535 = mul-le-mul n.ensures.1 n.ensures.2 in
+    omega arith
+
+pub slice_bounds-rebuild_input-end : goal.slice_bounds-rebuild_input-end
+slice_bounds-rebuild_input-end c = search rules
+
+pub slice_bounds-rebuild_input-end-2 : goal.slice_bounds-rebuild_input-end-2
+slice_bounds-rebuild_input-end-2 c = search rules
+
+-- what was lent to the rebuild
+module _ (r : After-rebuild_input-outcome) where
+  same : r.numbers-p.result ≡ wanted_numbers r.args.input.now
+  same = r.numbers-p.ensures.0
+
+  fits : length (take r.least-room.result r.args.out.now) ≡ r.least-room.result
+  fits =
+      let within : r.least-room.result ≤ length r.args.out.now = search rules in length-take-le _ _ within
+
+  lent : length (take r.least-room.result r.args.out.now)
+      ≡ min (r.numbers-p.result.a * r.numbers-p.result.s) (max_rows * max_strip)
+  lent = fits ∙ r.least-room.ensures
+
+  -- the output with the lent part given back
+  whole : length (r.rebuild_input-outcome.new.column ++ drop r.least-room.result r.args.out.now)
+      ≡ length r.args.out.now
+  whole =
+      length_front r.args.out.now r.rebuild_input-outcome.new.column r.least-room.result
+      r.rebuild_input-outcome.auto.column
+
+pub put_line-requires : goal.put_line-requires
+put_line-requires c =
+    (
+      omega (arith, whole (goal.at.put_line-requires c).After-rebuild_input-outcome, c.requires),
+      index_small _ _ (same (goal.at.put_line-requires c).After-rebuild_input-outcome) _ (lent (goal.at.put_line-requires c).After-rebuild_input-outcome) c.rebuild_input-outcome.ensures c.in-Refused.is,
+    )
+
+pub returns-in-Done : goal.returns-in-Done
+returns-in-Done c =
+    column_answered _ _ (same (goal.at.returns-in-Done c).After-rebuild_input-outcome) _ (lent (goal.at.returns-in-Done c).After-rebuild_input-outcome) c.rebuild_input-outcome.ensures c.in-Done.is
+    c.args.out.now c.least-room.result (c.rebuild_input-outcome.auto.column ∙ fits (goal.at.returns-in-Done c).After-rebuild_input-outcome)
+
+pub returns-in-Refused : goal.returns-in-Refused
+returns-in-Refused c =
+    line_answered _ _ (same (goal.at.returns-in-Refused c).After-rebuild_input-outcome) _ (lent (goal.at.returns-in-Refused c).After-rebuild_input-outcome) c.rebuild_input-outcome.ensures c.in-Refused.is
+    c.args.out.now c.least-room.result refl c.put_line.ensures
