@@ -1,1 +1,3 @@
+#![tactic(auto)]
+
 // Mathematics alone: definitions in specs/, theorems in proofs/.

@@ -1,5 +1,7 @@
 // The download bundle: the message with the lost node and the recording in field 02, and the planned places. Written
 // from a stored array, and compared by a reader with what is wanted.
+#![tactic(auto)]
+
 ghost use Rattle.std.specs.Prelude.{◌≡◌, ◌*◌, ◌<◌, length};
 ghost use Rattle.lists.specs.Put.{Wrote};
 ghost use Rattle.document.specs.declared.Answer.TheVariants.{Done, Refused};

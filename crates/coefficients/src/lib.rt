@@ -1,5 +1,7 @@
 // The weights of Lagrange's formula, for any node from other nodes that all differ: for each of them the inverse of the
 // product of its difference and its denominator, divided by the sum of these inverses.
+#![tactic(auto)]
+
 ghost use Rattle.std.specs.Prelude.{◌≡◌, ◌≤◌, ◌<◌, max, length};
 ghost use Rattle.lists.specs.Listed.{listed};
 ghost use Rattle.gf256.specs.Field.{products_of};

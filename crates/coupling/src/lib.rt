@@ -1,4 +1,6 @@
 // The coupling of strips, pair by pair, and what takes a pair apart.
+#![tactic(auto)]
+
 ghost use Rattle.std.specs.Prelude.{◌≡◌, ◌+◌, ◌*◌, ◌<◌, ◌≤◌, length};
 ghost use Rattle.algebra.specs.Coupling.{pair};
 ghost use Rattle.strips.specs.Strips.{added_scaled};

@@ -1,5 +1,7 @@
 // The types that the crates built on this one share, in the documents' words, and the profile's constructor that
 // refuses.
+#![tactic(auto)]
+
 ghost use Rattle.std.specs.Prelude.{◌≡◌, ◌/◌, ◌%◌, ◌<◌};
 ghost use Rattle.document.specs.Refusals.{number_of, index_of};
 ghost use Rattle.document.specs.ByteField.{number};

@@ -1,4 +1,6 @@
 // Encoding: plain rows by sums of weighted data columns, then the rows coupled pair by pair in place.
+#![tactic(auto)]
+
 ghost use Rattle.std.specs.Prelude.{◌≡◌, ◌*◌, ◌<◌, ◌≤◌, length};
 ghost use Rattle.document.specs.Profile.{Accepted};
 ghost use Rattle.document.specs.Encoding.{base_at, column_of, plain, encode_with, encode_of};

@@ -1,4 +1,6 @@
 // Numbers in bytes, and what a field of a tag, a length and content opens with.
+#![tactic(auto)]
+
 ghost use Rattle.std.specs.Prelude.{◌≡◌, ◌+◌, ◌≤◌, length};
 ghost use Rattle.lists.specs.Put.{slice, same, Wrote};
 ghost use Rattle.fields.specs.Fields.{two_bytes, four_bytes, opening, opening_length};

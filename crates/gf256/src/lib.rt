@@ -1,6 +1,8 @@
 // The field of 256 elements. A product is worked out by the bits of one factor, with shifts and exclusive ors, and no
 // table is read for it; the compiler can turn a loop of such products into vectors. The tables of the powers of 2 and of
 // their logarithms serve the inverse alone. A table is copied whole where it is read, so a list takes it once.
+#![tactic(auto)]
+
 ghost use Rattle.std.specs.Prelude.{◌≡◌, ◌<◌, ◌≤◌, length};
 ghost use Rattle.gf256.specs.Field;
 ghost use Rattle.gf256.specs.Field.{◌⊗◌, double, power, table_of, inverted_of};

@@ -1,6 +1,8 @@
 // The half pairs of a reading, the strips of the named nodes' columns whose partner is not read, and the system whose
 // unknowns are the base symbols of those partners. It has a line for each half pair, where document 01's coefficient
 // square has one for each strip.
+#![tactic(auto)]
+
 ghost use Rattle.std.specs.Prelude.{◌≡◌, false, ◌*◌, ◌<◌, length};
 ghost use Rattle.lists.specs.Put.{Wrote};
 ghost use Rattle.ksets.specs.Sets.{Rising};

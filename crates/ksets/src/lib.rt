@@ -1,5 +1,7 @@
 // The sets of k nodes in lexicographic order: how many there are, the set at a position, the position of a set, and the
 // next set.
+#![tactic(auto)]
+
 ghost use Rattle.std.specs.Prelude.{◌≡◌, false, ℕ, ◌+◌, ◌-◌, ◌<◌, ◌≤◌, length, get_or, drop};
 ghost use Rattle.lists.specs.Listed.{listed};
 ghost use Rattle.lists.specs.Put.{put};

@@ -1,6 +1,8 @@
 // Messages: field 01 with the profile, a field 02 with some content, and a field 03 for each place of some list. The
 // download bundle is one. Written, and compared by a reader with what is wanted (reader.rt). A list of places is two
 // bytes a place, node first.
+#![tactic(auto)]
+
 ghost use Rattle.std.specs.Prelude.{◌≡◌, ◌++◌, ◌+◌, ◌*◌, ◌/◌, ◌<◌, ◌≤◌, length};
 ghost use Rattle.lists.specs.Put.{Wrote};
 ghost use Rattle.lists.specs.Each.{Each};

@@ -1,4 +1,6 @@
 // The plan: the places that are read to rebuild a lost node.
+#![tactic(auto)]
+
 ghost use Rattle.std.specs.Prelude.{◌≡◌, ◌∷◌, [], ℕ, ◌+◌, ◌-◌, ◌%◌, ◌<◌, ◌≤◌, length, get_or, take};
 ghost use Rattle.lists.specs.Listed.{around};
 ghost use Rattle.lists.specs.Put.{Wrote};

@@ -1,4 +1,6 @@
 // Field 01 of a message: the profile with its edition. Written, and compared with a wanted one.
+#![tactic(auto)]
+
 ghost use Rattle.std.specs.Prelude.{◌≡◌, ◌+◌, ◌≤◌, length, take};
 ghost use Rattle.lists.specs.Put.{slice, same, Wrote};
 ghost use Rattle.fields.specs.Fields.{opening, opening_length, field_of};

@@ -1,6 +1,8 @@
 // Reading back by pairs. Where both strips of a pair are read they give both base strips; the partners of the half
 // pairs solve a small system. From the base strips of the named nodes follow those of the data nodes, which are the
 // data.
+#![tactic(auto)]
+
 ghost use Rattle.std.specs.Prelude.{◌≡◌, ◌*◌, ◌<◌, length};
 ghost use Rattle.ksets.specs.Sets.{Rising};
 ghost use Rattle.document.specs.Profile.{Accepted};

@@ -1,5 +1,7 @@
 // The rebuild of one lost node: one strip for each planned node, pairs folded; then each row of the lost column is one
 // sum of these strips, by coefficients computed once a row.
+#![tactic(auto)]
+
 ghost use Rattle.std.specs.Prelude.{◌≡◌, ◌≢◌, [], ◌∷◌, ◌+◌, ◌*◌, ◌<◌, ◌-◌, ◌%◌, ◌≤◌, length};
 ghost use Rattle.document.specs.ByteField.{number};
 ghost use Rattle.document.specs.Profile.{Accepted};

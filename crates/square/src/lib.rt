@@ -1,6 +1,8 @@
 // A square of coefficients as an array of lines, passed by value through the steps of its elimination. A row of it is
 // called a line, since `Row` is the number of a strip's row. `rows` and `columns` say how many lines and columns count;
 // they may differ.
+#![tactic(auto)]
+
 ghost use Rattle.std.specs.Prelude.{◌≡◌, cond, List, ℕ, ◌+◌, ◌%◌, ◌≤◌, ◌<◌, length, get_or, eqb};
 ghost use Rattle.strips.specs.Strips.{added_scaled};
 ghost use Rattle.square.specs.Steps.{side, stepped, lifted, pivot_from, unit_square};

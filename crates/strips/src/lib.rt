@@ -1,5 +1,7 @@
 // What is done to whole strips. No table is read here: the loops over bytes hold shifts, comparisons and exclusive ors
 // alone.
+#![tactic(auto)]
+
 ghost use Rattle.std.specs.Prelude.{◌≡◌, true, ℕ, ◌+◌, ◌*◌, ◌%◌, ◌^◌, ◌<◌, ◌≤◌, length, take, drop, replicate};
 ghost use Rattle.lists.specs.Listed.{listed};
 ghost use Rattle.strips.specs.Strips.{max_length, combination_of, SourcesFit, strip_at};

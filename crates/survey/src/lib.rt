@@ -1,4 +1,6 @@
 // The survey of a profile: the sets of k nodes one after the other, each decided by elimination alone.
+#![tactic(auto)]
+
 ghost use Rattle.std.specs.Prelude.{◌≡◌, ◌+◌, ◌≤◌, ◌<◌, length};
 ghost use Rattle.ksets.specs.Sets.{sets, set_at, Rising};
 ghost use Rattle.document.specs.Profile.{max_nodes, Accepted};

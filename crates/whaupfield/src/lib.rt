@@ -1,4 +1,6 @@
 // The functions for a C host: plain numbers and byte slices over the entry points. include/whaupfield.h declares them.
+#![tactic(auto)]
+
 ghost use Rattle.std.specs.Prelude.{◌≡◌, ◌*◌, ◌^◌, ◌<◌};
 ghost use Rattle.gf256.specs.Field.{◌⊗◌, inverted_of};
 ghost use Rattle.document.specs.Refusals.{answer_value};

@@ -2,7 +2,6 @@
 use mathlib.Core.Path.{ap₂, ◌∙◌}
 use mathlib.Core.List.{List}
 use Prim.Native.Nat.{ℕ}
-use borrow.Author.Rules.{rules}
 use Rattle.document.specs.declared.Place.{Place}
 use Rattle.document.specs.declared.Answer.TheVariants.{Done, Refused}
 use Rattle.document.specs.Refusals.{tried}

@@ -1,6 +1,5 @@
 -- `bundle::write_bundle` meets its contract: the head of a call.
 use mathlib.Core.Path.{sym, ◌∙◌}
-use borrow.Author.Rules.{rules}
 use Rattle.document.specs.Bundle.{write_of}
 use Rattle.document.proofs.Accepts.{accepted, rejected, passed}
 use Rattle.bundle.proofs.write_bundle.Goals as goal

@@ -2,7 +2,6 @@
 use mathlib.Core.Path.{◌≡◌, sym, ap, ◌∙◌}
 use Prim.Native.Nat.{◌<◌}
 use native.Mathlib.Omega.{arith}
-use borrow.Author.Rules.{rules}
 use Rattle.document.specs.Message.{message_length}
 use Rattle.document.specs.Bundle.{lost_content_length, bundle_length}
 use Rattle.document.proofs.Bounds.{strips_bound, array_bound}

@@ -1,6 +1,5 @@
 -- `coefficients::data_denominators` meets its contract: the front of the first nodes is the data nodes, which differ.
 use mathlib.Core.Path.{◌≡◌, sym, ap, subst, ◌∙◌}
-use borrow.Author.Rules.{rules}
 use Prim.Native.Nat.{ℕ}
 use lib.ListN.{length, take}
 use Rattle.coefficients.specs.Weights.{Different, denominators_of}

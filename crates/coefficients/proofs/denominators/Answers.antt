@@ -2,9 +2,8 @@
 -- first q nodes.
 use mathlib.Core.Path.{◌≡◌, sym, ap, ◌∙◌}
 use mathlib.Core.List.{List}
-use Prim.Native.Nat.{ℕ, ◌-◌, ◌≤◌}
+use Prim.Native.Nat.{ℕ, ◌≤◌}
 use native.Mathlib.Omega.{arith}
-use borrow.Author.Rules.{rules}
 use lib.ListN.{length, take, drop}
 use lib.Seq.{length-take-le, length_front, take-take, take-append-le}
 use Rattle.gf256.specs.Field.{products_of}
@@ -13,7 +12,7 @@ use Rattle.strips.specs.Strips.{strip_at}
 use Rattle.strips.proofs.Strip.{strip_lent}
 use Rattle.coefficients.specs.Weights.{factors_of}
 use Rattle.coefficients.proofs.Lists.{padded_product}
-use Rattle.coefficients.proofs.Factors.{denominators_to, factors_length}
+use Rattle.coefficients.proofs.Factors.{factors_length}
 use Rattle.coefficients.proofs.Factors.{denominators_start, denominators_step, denominators_end}
 use Rattle.coefficients.proofs.denominators.Goals.{After-width-w}
 use Rattle.coefficients.proofs.denominators.Goals as goal

@@ -1,11 +1,10 @@
 -- `coefficients::differences` meets its contract. The invariant: the first i entries are the first i differences.
 use mathlib.Core.Path.{ap, ◌∙◌}
-use Prim.Native.Nat.{◌-◌, ◌<◌}
+use Prim.Native.Nat.{◌<◌}
 use native.Mathlib.Omega.{arith}
-use borrow.Author.Rules.{rules}
-use lib.ListN.{length, get_or}
+use lib.ListN.{get_or}
 use Rattle.lists.specs.Listed.{listed}
-use Rattle.lists.proofs.Written.{Written, written_none, written_all, written_more}
+use Rattle.lists.proofs.Written.{written_none, written_all, written_more}
 use Rattle.gf256.specs.Field.{◌⊕◌}
 use Rattle.document.specs.ByteField.{bytes, byte, number}
 use Rattle.coefficients.specs.Weights.{points, differences_of}

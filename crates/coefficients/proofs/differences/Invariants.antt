@@ -1,15 +1,9 @@
 -- `coefficients::differences` meets its contract. The invariant: the first i entries are the first i differences.
-use mathlib.Core.Path.{ap, ◌∙◌}
-use Prim.Native.Nat.{◌-◌, ◌<◌}
-use native.Mathlib.Omega.{arith}
-use borrow.Author.Rules.{rules}
-use lib.ListN.{length, get_or}
-use Rattle.lists.specs.Listed.{listed}
-use Rattle.lists.proofs.Written.{Written, written_none, written_all, written_more}
-use Rattle.gf256.specs.Field.{◌⊕◌}
+use Prim.Native.Nat.{◌-◌}
+use lib.ListN.{length}
+use Rattle.lists.proofs.Written.{Written}
 use Rattle.document.specs.ByteField.{bytes, byte, number}
-use Rattle.coefficients.specs.Weights.{points, differences_of}
-use Rattle.coefficients.proofs.Lagrange.{difference}
+use Rattle.coefficients.specs.Weights.{points}
 use Rattle.coefficients.proofs.differences.Given as goal
 
 abbrev pub invariant-loop-i : goal.invariant-loop-i

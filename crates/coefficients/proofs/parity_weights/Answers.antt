@@ -2,7 +2,6 @@
 use mathlib.Core.Path.{◌≡◌, sym, ap, subst, ◌∙◌}
 use mathlib.Core.List.{List}
 use Prim.Native.Nat.{ℕ}
-use borrow.Author.Rules.{rules}
 use lib.ListN.{length, take}
 use Rattle.coefficients.specs.Weights.{Different, Outside, denominators_of, weights_of}
 use Rattle.coefficients.specs.Data.{data_nodes}

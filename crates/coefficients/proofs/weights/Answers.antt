@@ -9,7 +9,6 @@ use lib.Seq.{length-take-le}
 use Rattle.coefficients.specs.Weights.{differences_of, Divisors, weights_from}
 use Rattle.lists.proofs.Lent.{front_fits, front}
 use Rattle.coefficients.proofs.Lagrange.{differences_length, divisors, weights_from_lem, weights_none}
-use borrow.Author.Rules.{rules}
 use Rattle.coefficients.proofs.weights.Goals.{After-differences}
 use Rattle.coefficients.proofs.weights.Goals as goal
 

@@ -1,7 +1,6 @@
 -- `coefficients::weights_from` meets its contract, by what the functions it calls ensure.
 use mathlib.Core.Path.{◌≡◌, sym, ap, ap₂, subst, ◌∙◌}
 use native.Mathlib.Omega.{arith}
-use borrow.Author.Rules.{rules}
 use Rattle.gf256.specs.Field.{inverse, total_of, inverses_of, NoZero}
 use Rattle.coupling.specs.Pairs.{multiple_of}
 use Rattle.coefficients.specs.Weights.{shares_of, weights_from}

@@ -1,10 +1,8 @@
 -- `coupling::couple` meets its contract. The invariant: the pairs whose upper strip lies before z are coupled, all else
 -- is as it was.
 use mathlib.Core.Path.{◌≡◌, sym, subst, ◌∙◌}
-use Prim.Native.Nat.{ℕ, ◌+◌, ◌-◌, ◌*◌, ◌≤◌, ◌<◌, zero-le}
+use Prim.Native.Nat.{ℕ, ◌+◌, ◌*◌, zero-le}
 use native.Mathlib.Omega.{arith}
-use borrow.Author.Rules.{rules}
-use lib.ListN.{get_or}
 use Rattle.document.proofs.Bounds.{strips_bound}
 use Rattle.coupling.specs.Pairs.{coupled_byte}
 use Rattle.coupling.proofs.Pairs.{Mixed, none_changed, next_changed}

@@ -1,14 +1,9 @@
 -- `coupling::couple` meets its contract. The invariant: the pairs whose upper strip lies before z are coupled, all else
 -- is as it was, and it was bytes.
-use mathlib.Core.Path.{◌≡◌, sym, subst, ◌∙◌}
-use Prim.Native.Nat.{ℕ, ◌+◌, ◌-◌, ◌*◌, ◌≤◌, ◌<◌, zero-le}
-use native.Mathlib.Omega.{arith}
-use borrow.Author.Rules.{rules}
+use Prim.Native.Nat.{ℕ, ◌-◌, ◌≤◌, ◌<◌}
 use lib.ListN.{get_or}
-use Rattle.document.proofs.Bounds.{strips_bound}
 use Rattle.coupling.specs.Pairs.{coupled_byte}
-use Rattle.coupling.proofs.Pairs.{Mixed, none_changed, next_changed}
-use Rattle.coupling.proofs.Coupled.{coupled_stays, all_coupled}
+use Rattle.coupling.proofs.Pairs.{Mixed}
 use Rattle.coupling.proofs.couple.Given as goal
 
 abbrev pub invariant-loop-z : goal.invariant-loop-z

@@ -2,11 +2,10 @@
 use mathlib.Core.Path.{◌≡◌, sym, ap, ap₂, ◌∙◌}
 use Prim.Native.Nat.{ℕ, ◌+◌, ◌*◌, ◌/◌, ◌%◌, ◌≤◌, ◌<◌}
 use native.Mathlib.Omega.{arith}
-use borrow.Author.Rules.{rules}
 use lib.ListN.{length}
 use Rattle.document.specs.declared.Profile.{Profile}
 use Rattle.document.specs.declared.Place.{Place}
-use Rattle.document.specs.Places.{place, partner_of, Within}
+use Rattle.document.specs.Places.{partner_of, Within}
 use Rattle.document.specs.ByteField.{number}
 use Rattle.document.specs.Encoding as E
 use Rattle.document.specs.Encoding.{constant_of}
@@ -63,19 +62,17 @@ start-upper-requires c =
     (c.requires.0, within (goal.at.start-upper-requires c).After-place-q)
 
 pub start-lower-requires : goal.start-lower-requires
-start-lower-requires c =
-    (
-      c.requires.0,
-      rw c.partner-r.ensures (partner_within c.args.p c.requires.0 c.place-q.result (within (goal.at.start-lower-requires c).After-place-q)),
-    )
+start-lower-requires c = (
+  c.requires.0,
+  rw c.partner-r.ensures (partner_within c.args.p c.requires.0 c.place-q.result (within (goal.at.start-lower-requires c).After-place-q)),
+)
 
 pub couple_pair-requires : goal.couple_pair-requires
-couple_pair-requires c =
-    (
-      c.requires.0.short,
-      omega (arith, upper_start (goal.at.couple_pair-requires c).After-start-lower, lower_start (goal.at.couple_pair-requires c).After-start-lower, apart (goal.at.couple_pair-requires c).After-start-lower),
-      omega (arith, upper_start (goal.at.couple_pair-requires c).After-start-lower, inside (goal.at.couple_pair-requires c).After-start-lower),
-    )
+couple_pair-requires c = (
+  c.requires.0.short,
+  omega (arith, upper_start (goal.at.couple_pair-requires c).After-start-lower, lower_start (goal.at.couple_pair-requires c).After-start-lower, apart (goal.at.couple_pair-requires c).After-start-lower),
+  omega (arith, upper_start (goal.at.couple_pair-requires c).After-start-lower, inside (goal.at.couple_pair-requires c).After-start-lower),
+)
 
 pub returns-then-i-l : goal.returns-then-i-l
 returns-then-i-l c =

@@ -2,7 +2,6 @@
 use mathlib.Core.Path.{ap, ◌∙◌}
 use Prim.Native.Nat.{ℕ}
 use native.Mathlib.Omega.{arith}
-use borrow.Author.Rules.{rules}
 use Rattle.gf256.specs.Field.{◌⊕◌}
 use Rattle.coupling.proofs.Determinants.{determinant_none, determinant_lower, determinant_upper}
 use Rattle.coupling.proofs.determinant.Goals as goal

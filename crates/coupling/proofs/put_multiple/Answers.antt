@@ -1,7 +1,6 @@
 -- `coupling::put_multiple` meets its contract.
 use mathlib.Core.Path.{sym, ap, ◌∙◌}
 use native.Mathlib.Omega.{arith}
-use borrow.Author.Rules.{rules}
 use lib.ListN.{length}
 use Rattle.lists.proofs.Listed.{listed_length}
 use Rattle.strips.specs.Strips.{added_scaled}

@@ -2,7 +2,6 @@
 -- hold.
 use native.Mathlib.Omega.{arith}
 use mathlib.Core.Path.{sym}
-use borrow.Author.Rules.{rules}
 use Rattle.document.proofs.Decides.{decides_false}
 use Rattle.document.proofs.Accepts.{decides_shape, shape_left}
 use Rattle.document.proofs.accepts_shape.Goals as goal

@@ -1,6 +1,5 @@
 -- `encode::encode` meets its contract: the head of a call.
 use mathlib.Core.Path.{sym, ◌∙◌}
-use borrow.Author.Rules.{rules}
 use Rattle.document.specs.Encoding.{encode_of}
 use Rattle.document.proofs.Accepts.{accepted, rejected, passed}
 use Rattle.encode.proofs.encode.Goals as goal

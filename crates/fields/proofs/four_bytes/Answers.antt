@@ -1,6 +1,5 @@
 -- `fields::four_bytes` meets its contract.
 use mathlib.Core.Path.{refl}
-use borrow.Author.Rules.{rules}
 use Rattle.fields.specs.Fields.{four_bytes}
 use Rattle.fields.proofs.four_bytes.Goals as goal
 

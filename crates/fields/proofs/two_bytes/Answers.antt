@@ -1,6 +1,5 @@
 -- `fields::two_bytes` meets its contract.
 use mathlib.Core.Path.{refl}
-use borrow.Author.Rules.{rules}
 use Rattle.fields.specs.Fields.{two_bytes}
 use Rattle.fields.proofs.two_bytes.Goals as goal
 

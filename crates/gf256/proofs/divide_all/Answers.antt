@@ -1,7 +1,6 @@
 -- `gf256::divide_all` meets its contract: the front of the array holds the divisors, then their inverses.
 use mathlib.Core.Path.{◌≡◌, sym, ap, subst, ◌∙◌}
-use borrow.Author.Rules.{rules}
-use lib.ListN.{length, take}
+use lib.ListN.{length}
 use lib.Seq.{length-take-le}
 use Rattle.lists.proofs.Lent.{front_fits, front}
 use Rattle.lists.proofs.Put.{wrote_front, wrote_fits}

@@ -1,7 +1,6 @@
 -- `gf256::mul` meets its contract. The loop follows `bit_product`: the sum so far, with the product of x and the n
 -- lowest bits of y, is the product.
 use mathlib.Core.Path.{◌≡◌, sym, ap₂, ◌∙◌}
-use mathlib.Core.Logic.{⊎_elim}
 use Prim.Native.Nat.{ℕ, zero, suc, ◌*◌, ◌/◌, ◌%◌, ◌-◌, ◌<◌}
 use native.Mathlib.Nat.{mod-eq_of_lt, mul-zero, mul-one}
 use native.Mathlib.Omega.{arith}
@@ -43,7 +42,8 @@ loop-n-preserved c =
     let f = c.before.if-y-eq1 in
     let e : f.r ≡ l.r ⊕ (l.x * (l.y % 2)) =
     elim f.branch [
-      then-y-eq1 w ↦ cc (odd l.r l.x l.y w.if-y-eq1.true) | else-y-eq1 w ↦ cc (even l.r l.x l.y w.if-y-eq1.false)
+      | then-y-eq1 w ↦ cc (odd l.r l.x l.y w.if-y-eq1.true)
+      | else-y-eq1 w ↦ cc (even l.r l.x l.y w.if-y-eq1.false)
     ] in
     ap₂ (λ (r x : ℕ). r ⊕ bit_product (l.n - 1) x (l.y / 2)) e c.twice-x.ensures
     ∙ turn l.r l.x l.y l.n (omega arith) ∙ l.invariant

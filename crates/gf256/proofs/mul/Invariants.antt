@@ -1,14 +1,7 @@
 -- `gf256::mul` meets its contract. The loop follows `bit_product`: the sum so far, with the product of x and the n
 -- lowest bits of y, is the product.
-use mathlib.Core.Path.{◌≡◌, sym, ap₂, ◌∙◌}
-use mathlib.Core.Logic.{⊎_elim}
-use Prim.Native.Nat.{ℕ, suc, ◌*◌, ◌/◌, ◌%◌, ◌-◌, ◌<◌}
-use native.Mathlib.Nat.{mod-eq_of_lt, mul-zero, mul-one}
-use native.Mathlib.Omega.{arith}
-use lib.Bits.{bit_and, and_mask}
-use borrow.Author.Rules.{rules}
-use Rattle.gf256.specs.Field.{double, ◌⊕◌, ◌⊗◌, bit_product}
-use Rattle.gf256.proofs.Xor.{zero-add, add-zero, add_assoc}
+use mathlib.Core.Path.{◌≡◌}
+use Rattle.gf256.specs.Field.{◌⊕◌, ◌⊗◌, bit_product}
 use Rattle.gf256.proofs.mul.Given as goal
 
 abbrev pub invariant-loop-n : goal.invariant-loop-n

@@ -1,11 +1,10 @@
 -- `gf256::multiply_all` meets its contract. The invariant: the first i entries are the first i products, and the others
 -- are as they were.
 use mathlib.Core.Path.{ap, ◌∙◌}
-use Prim.Native.Nat.{ℕ, ◌-◌}
+use Prim.Native.Nat.{ℕ}
 use native.Mathlib.Omega.{arith}
-use borrow.Author.Rules.{rules}
-use lib.ListN.{length, get_or}
-use Rattle.lists.proofs.Written.{Written, written_none, written_next, written_all, written_more}
+use lib.ListN.{get_or}
+use Rattle.lists.proofs.Written.{written_none, written_next, written_all, written_more}
 use Rattle.gf256.specs.Field.{◌⊗◌, products_of}
 use Rattle.gf256.proofs.multiply_all.Goals as goal
 

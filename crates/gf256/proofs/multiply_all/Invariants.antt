@@ -1,12 +1,9 @@
 -- `gf256::multiply_all` meets its contract. The invariant: the first i entries are the first i products, and the others
 -- are as they were.
-use mathlib.Core.Path.{ap, ◌∙◌}
-use Prim.Native.Nat.{ℕ, ◌-◌}
-use native.Mathlib.Omega.{arith}
-use borrow.Author.Rules.{rules}
+use Prim.Native.Nat.{◌-◌}
 use lib.ListN.{length, get_or}
-use Rattle.lists.proofs.Written.{Written, written_none, written_next, written_all, written_more}
-use Rattle.gf256.specs.Field.{◌⊗◌, products_of}
+use Rattle.lists.proofs.Written.{Written}
+use Rattle.gf256.specs.Field.{◌⊗◌}
 use Rattle.gf256.proofs.multiply_all.Given as goal
 
 abbrev pub invariant-loop-i : goal.invariant-loop-i

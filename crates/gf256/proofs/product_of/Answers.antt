@@ -1,10 +1,9 @@
 -- `gf256::product_of` meets its contract. The invariant: the product so far, times the product of the entries left, is
 -- the product of all.
-use mathlib.Core.Path.{◌≡◌, sym, ap, ◌∙◌}
-use Prim.Native.Nat.{ℕ, ◌+◌, ◌-◌, ◌<◌, ◌≤◌}
+use mathlib.Core.Path.{sym, ap, ◌∙◌}
+use Prim.Native.Nat.{ℕ, ◌+◌}
 use native.Mathlib.Omega.{arith}
-use borrow.Author.Rules.{rules}
-use lib.ListN.{length, get_or, drop}
+use lib.ListN.{get_or, drop}
 use Rattle.gf256.specs.Field.{◌⊗◌, product_of}
 use Rattle.gf256.proofs.Product.{mul_lt}
 use Rattle.gf256.proofs.Lists.{product_start, product_step, product_done}

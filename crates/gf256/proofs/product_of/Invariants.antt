@@ -1,13 +1,9 @@
 -- `gf256::product_of` meets its contract. The invariant: the product so far, times the product of the entries left, is
 -- the product of all.
-use mathlib.Core.Path.{◌≡◌, sym, ap, ◌∙◌}
-use Prim.Native.Nat.{ℕ, ◌+◌, ◌-◌, ◌<◌, ◌≤◌}
-use native.Mathlib.Omega.{arith}
-use borrow.Author.Rules.{rules}
-use lib.ListN.{length, get_or, drop}
+use mathlib.Core.Path.{◌≡◌}
+use Prim.Native.Nat.{◌-◌, ◌<◌, ◌≤◌}
+use lib.ListN.{length, drop}
 use Rattle.gf256.specs.Field.{◌⊗◌, product_of}
-use Rattle.gf256.proofs.Product.{mul_lt}
-use Rattle.gf256.proofs.Lists.{product_start, product_step, product_done}
 use Rattle.gf256.proofs.product_of.Given as goal
 
 abbrev pub invariant-loop-i : goal.invariant-loop-i

@@ -1,13 +1,9 @@
 -- `gf256::total_of` meets its contract. The invariant: the sum so far, and the sum of the entries left, are the sum of
 -- all.
-use mathlib.Core.Path.{◌≡◌, sym, ◌∙◌}
+use mathlib.Core.Path.{◌≡◌}
 use Prim.Native.Nat.{◌-◌, ◌≤◌}
-use native.Mathlib.Omega.{arith}
-use borrow.Author.Rules.{rules}
 use lib.ListN.{length, drop}
 use Rattle.gf256.specs.Field.{◌⊕◌, total_of}
-use Rattle.gf256.proofs.Xor.{zero-add}
-use Rattle.gf256.proofs.Lists.{total_step, total_done}
 use Rattle.gf256.proofs.total_of.Given as goal
 
 abbrev pub invariant-loop-i : goal.invariant-loop-i

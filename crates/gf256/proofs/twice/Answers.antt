@@ -1,6 +1,5 @@
 -- `gf256::twice` meets its contract.
 use mathlib.Core.Path.{◌≡◌, ap}
-use mathlib.Core.Logic.{⊎_elim}
 use Prim.Native.Nat.{ℕ, ◌*◌, ◌/◌, ◌%◌}
 use native.Mathlib.Omega.{arith}
 use Rattle.gf256.specs.Field.{double, ◌⊕◌}

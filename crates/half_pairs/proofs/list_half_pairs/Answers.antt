@@ -1,13 +1,10 @@
 -- `half_pairs::list_half_pairs` meets its contract. The invariant: the half pairs before z are written.
-use mathlib.Core.Path.{◌≡◌, refl, ap, ◌∙◌}
+use mathlib.Core.Path.{refl, ap, ◌∙◌}
 use mathlib.Core.Bool.{Bool, cond}
 use mathlib.Core.List.{[], ◌∷◌, ◌++◌}
-use Prim.Native.Nat.{ℕ, ◌-◌, ◌*◌, ◌≤◌, zero-le}
+use Prim.Native.Nat.{ℕ, ◌*◌, ◌≤◌, zero-le}
 use native.Mathlib.Omega.{arith}
-use borrow.Author.Rules.{rules}
-use lib.ListN.{length}
 use Rattle.lists.specs.Listed.{rising}
-use Rattle.lists.specs.Put.{Wrote}
 use Rattle.lists.proofs.Put.{wrote_none, wrote_then, wrote_same}
 use Rattle.lists.proofs.Rising.{rising_length, rising_next}
 use Rattle.document.proofs.Bounds.{square_bound}

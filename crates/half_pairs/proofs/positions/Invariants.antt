@@ -1,14 +1,8 @@
 -- `half_pairs::positions` meets its contract. The invariant: the first q nodes have their positions.
-use mathlib.Core.Path.{◌≡◌, ap, ◌∙◌}
-use mathlib.Core.List.{List}
-use Prim.Native.Nat.{ℕ, ◌-◌, ◌≤◌, ◌<◌}
-use native.Mathlib.Omega.{arith}
-use lib.ListN.{set}
+use mathlib.Core.Path.{◌≡◌}
+use Prim.Native.Nat.{◌-◌, ◌≤◌}
 use Rattle.lists.specs.Listed.{listed}
-use Rattle.ksets.proofs.Ranked.{risen_length}
-use Rattle.document.proofs.Joined.{rising_below}
-use Rattle.half_pairs.specs.HalfPairs.{named}
-use Rattle.half_pairs.proofs.Named.{placed, placed_none, placed_next, placed_all}
+use Rattle.half_pairs.proofs.Named.{placed}
 use Rattle.half_pairs.proofs.positions.Given as goal
 
 abbrev pub invariant-loop-q : goal.invariant-loop-q

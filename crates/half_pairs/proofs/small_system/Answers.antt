@@ -2,16 +2,14 @@
 -- lines before e are written.
 use mathlib.Core.Path.{◌≡◌, sym, ap, ap₂, ◌∙◌}
 use mathlib.Core.List.{List}
-use Prim.Native.Nat.{ℕ, ◌-◌, ◌≤◌, ◌<◌}
+use Prim.Native.Nat.{ℕ, ◌<◌}
 use native.Mathlib.Omega.{arith}
-use borrow.Author.Rules.{rules}
-use lib.ListN.{length, set, replicate}
+use lib.ListN.{length, set}
 use lib.Seq.{length-take-le}
 use Rattle.square.specs.declared.Line.{Line}
 use Rattle.square.specs.Steps.{filled}
 use Rattle.square.proofs.Steps.{filled_none, filled_next}
-use Rattle.document.specs.declared.Profile.{Profile}
-use Rattle.half_pairs.specs.HalfPairs.{half_pairs, system_line, system_square}
+use Rattle.half_pairs.specs.HalfPairs.{half_pairs, system_square}
 use Rattle.half_pairs.proofs.System.{few_halves, halves_front, halves_fit}
 use Rattle.half_pairs.proofs.small_system.Invariants.{system_line_of, blank}
 use Rattle.half_pairs.proofs.small_system.Goals.{After-system_line-c, Start}

@@ -1,18 +1,13 @@
 -- `half_pairs::small_system` meets its contract. The front of the table of half pairs is their list; the invariant: the
 -- lines before e are written.
-use mathlib.Core.Path.{◌≡◌, sym, ap, ap₂, ◌∙◌}
+use mathlib.Core.Path.{◌≡◌}
 use mathlib.Core.List.{List}
-use Prim.Native.Nat.{ℕ, ◌-◌, ◌≤◌, ◌<◌}
-use native.Mathlib.Omega.{arith}
-use borrow.Author.Rules.{rules}
-use lib.ListN.{length, set, replicate}
-use lib.Seq.{length-take-le}
+use Prim.Native.Nat.{ℕ, ◌-◌, ◌≤◌}
+use lib.ListN.{replicate}
 use Rattle.square.specs.declared.Line.{Line}
 use Rattle.square.specs.Steps.{filled}
-use Rattle.square.proofs.Steps.{filled_none, filled_next}
 use Rattle.document.specs.declared.Profile.{Profile}
-use Rattle.half_pairs.specs.HalfPairs.{half_pairs, system_line, system_square}
-use Rattle.half_pairs.proofs.System.{few_halves, halves_front, halves_fit}
+use Rattle.half_pairs.specs.HalfPairs.{system_line}
 use Rattle.half_pairs.proofs.small_system.Given as goal
 
 abbrev pub system_line_of : Profile → List ℕ → ℕ → Line

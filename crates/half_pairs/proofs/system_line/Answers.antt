@@ -2,7 +2,7 @@
 use mathlib.Core.Path.{◌≡◌, sym, ap, ap₂, subst, ◌∙◌}
 use mathlib.Core.Bool.{false}
 use mathlib.Core.List.{List}
-use Prim.Native.Nat.{ℕ, ◌-◌, ◌*◌, ◌≤◌, ◌<◌}
+use Prim.Native.Nat.{ℕ, ◌*◌, ◌≤◌, ◌<◌}
 use native.Mathlib.Omega.{arith}
 use lib.ListN.{length, get_or, set, replicate}
 use Rattle.gf256.specs.Field.{◌⊕◌}
@@ -78,9 +78,9 @@ partner_coefficient-v-requires c =
     let e = c.args.e in record {
       accepted = (c.requires.accepted.0, c.requires.accepted.1, rw (strip (goal.at.partner_coefficient-v-requires c).Start l.f) (inside (goal.at.partner_coefficient-v-requires c).Start l.f c.loop-f-test.true));
       within = (
-          subst (Within (p (goal.at.partner_coefficient-v-requires c).Start)) (sym (place (goal.at.partner_coefficient-v-requires c).After-joined_partner-r)) (within (goal.at.partner_coefficient-v-requires c).Start e c.requires.halves_value.1),
-          subst (λ (q : Place). is_named (p (goal.at.partner_coefficient-v-requires c).Start).k (nodes (goal.at.partner_coefficient-v-requires c).Start) q.node.0 ≡ false) (sym (place (goal.at.partner_coefficient-v-requires c).After-joined_partner-r)) (other (goal.at.partner_coefficient-v-requires c).Start e c.requires.halves_value.1),
-        );
+        subst (Within (p (goal.at.partner_coefficient-v-requires c).Start)) (sym (place (goal.at.partner_coefficient-v-requires c).After-joined_partner-r)) (within (goal.at.partner_coefficient-v-requires c).Start e c.requires.halves_value.1),
+        subst (λ (q : Place). is_named (p (goal.at.partner_coefficient-v-requires c).Start).k (nodes (goal.at.partner_coefficient-v-requires c).Start) q.node.0 ≡ false) (sym (place (goal.at.partner_coefficient-v-requires c).After-joined_partner-r)) (other (goal.at.partner_coefficient-v-requires c).Start e c.requires.halves_value.1),
+      );
       table_value = (c.requires.accepted.2, rw (strip (goal.at.partner_coefficient-v-requires c).Start l.f) (other (goal.at.partner_coefficient-v-requires c).Start l.f c.loop-f-test.true));
     }
 
@@ -97,8 +97,7 @@ loop-f-smaller c = omega (arith, c.loop-f-test.true)
 
 pub loop-f-preserved : goal.loop-f-preserved
 loop-f-preserved c =
-    let l = c.loop-f in
-    (
+    let l = c.loop-f in (
       omega (arith, c.loop-f-test.true),
       ap₂ (λ (x : List ℕ) (v : ℕ). set x l.f v) l.invariant.1
           (c.partner_coefficient-v.ensures

@@ -1,8 +1,4 @@
-use Rattle.std.proofs.Common.{rules, ◌≡◌, false, ℕ, ◌+◌, ◌-◌, ◌<◌, ◌≤◌, length, get_or, drop, ◌*◌, ◌/◌, ◌%◌, Bool, true, nat_eq, nat_lt, List, [], ◌∷◌, ◌++◌, slice_set, bit_and, bit_or, Fits, w8, w32, w64, Bor, MutBor}
-use Rattle.lists.specs.Listed.{listed}
-use Rattle.lists.specs.Put.{put}
-use Rattle.ksets.specs.Sets.{max_nodes, sets, set_at, rank_of, full, run, next_of}
-use Rattle.ksets.specs.Workers.{next_at, Writes, Shared, Ranks, Raised, Steps}
+use Rattle.std.proofs.Common.{ℕ, ◌+◌, ◌-◌, drop}
 use native.Mathlib.Omega.{arith}
 use mathlib.Core.Path.{◌∙◌, sym, ap₂}
 use Rattle.ksets.proofs.Pascal.{sets_bound, rule}

@@ -2,7 +2,6 @@
 use mathlib.Core.Path.{sym}
 use native.Mathlib.Omega.{arith}
 use Rattle.ksets.proofs.Pascal.{sets_none, row_at}
-use borrow.Author.Rules.{rules}
 use Rattle.ksets.proofs.count.Goals as goal
 
 pub returns-then-k-gt-MAX_NODES : goal.returns-then-k-gt-MAX_NODES

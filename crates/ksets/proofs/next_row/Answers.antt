@@ -1,11 +1,10 @@
 -- `ksets::next_row` meets its contract. The invariant: the entries below k are written.
 use mathlib.Core.Path.{◌≡◌, ap, ◌∙◌}
-use Prim.Native.Nat.{ℕ, ◌≤◌, ◌-◌}
+use Prim.Native.Nat.{ℕ, ◌-◌}
 use lib.ListN.{length}
 use Rattle.lists.specs.Listed.{listed}
 use native.Mathlib.Omega.{arith}
-use borrow.Author.Rules.{rules}
-use Rattle.lists.proofs.Written.{Written, written_none, written_more, written_all}
+use Rattle.lists.proofs.Written.{written_none, written_more, written_all}
 use Rattle.ksets.specs.Workers.{next_at}
 use Rattle.ksets.proofs.Pascal.{next_first, next_at_lem}
 use Rattle.ksets.proofs.next_row.Goals as goal

@@ -1,13 +1,7 @@
 -- `ksets::next_row` meets its contract. The invariant: the entries below k are written.
-use mathlib.Core.Path.{◌≡◌, ap, ◌∙◌}
-use Prim.Native.Nat.{ℕ, ◌≤◌, ◌-◌}
-use lib.ListN.{length}
-use Rattle.lists.specs.Listed.{listed}
-use native.Mathlib.Omega.{arith}
-use borrow.Author.Rules.{rules}
-use Rattle.lists.proofs.Written.{Written, written_none, written_more, written_all}
+use Prim.Native.Nat.{◌≤◌, ◌-◌}
+use Rattle.lists.proofs.Written.{Written}
 use Rattle.ksets.specs.Workers.{next_at}
-use Rattle.ksets.proofs.Pascal.{next_first, next_at_lem}
 use Rattle.ksets.proofs.next_row.Given as goal
 
 abbrev pub invariant-loop-k : goal.invariant-loop-k

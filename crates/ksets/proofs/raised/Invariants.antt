@@ -1,12 +1,9 @@
 -- `ksets::raised` meets its contract. The invariant: no entry from i on can be raised.
 use mathlib.Core.Path.{◌≡◌}
 use mathlib.Core.Bool.{true}
-use Prim.Native.Nat.{◌-◌, ◌≤◌}
-use native.Mathlib.Omega.{arith}
+use Prim.Native.Nat.{◌≤◌}
 use lib.ListN.{length, drop}
 use Rattle.ksets.specs.Sets.{full}
-use Rattle.ksets.proofs.Raising.{full_end, full_more, raised_here, never}
-use borrow.Author.Rules.{rules}
 use Rattle.ksets.proofs.raised.Given as goal
 
 abbrev pub invariant-loop-i : goal.invariant-loop-i

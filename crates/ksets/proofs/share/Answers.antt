@@ -3,7 +3,6 @@ use mathlib.Core.Path.{ap, ◌∙◌}
 use Prim.Native.Nat.{ℕ, ◌*◌, ◌/◌}
 use native.Mathlib.Omega.{arith}
 use Rattle.ksets.proofs.Pascal.{share_fits, share_is}
-use borrow.Author.Rules.{rules}
 use Rattle.ksets.proofs.share.Goals as goal
 
 pub overflow_mul-result : goal.overflow_mul-result

@@ -1,7 +1,6 @@
 -- `ksets::step` meets its contract: from the last entry that can be raised on, the next set is a run.
 use mathlib.Core.Path.{◌∙◌}
 use Rattle.ksets.proofs.Raising.{steps_free, raised_next}
-use borrow.Author.Rules.{rules}
 use Rattle.ksets.proofs.step.Goals as goal
 
 pub raised-at-requires : goal.raised-at-requires

@@ -1,7 +1,6 @@
 -- `ksets::unrank` meets its contract: the set fills the buffer.
 use mathlib.Core.Path.{◌∙◌}
 use Rattle.ksets.proofs.Cases.{wrote_whole}
-use borrow.Author.Rules.{rules}
 use Rattle.ksets.proofs.unrank.Goals as goal
 
 pub returns : goal.returns

@@ -1,13 +1,9 @@
 -- `ksets::write_run` meets its contract. The invariant: the first i numbers are written.
-use mathlib.Core.Path.{◌≡◌, refl, ap, ◌∙◌}
-use mathlib.Core.List.{List}
-use Prim.Native.Nat.{ℕ, ◌+◌, ◌-◌, ◌≤◌}
-use native.Mathlib.Omega.{arith}
-use lib.ListN.{length, set, take, length-set}
+use mathlib.Core.Path.{◌≡◌}
+use Prim.Native.Nat.{◌-◌, ◌≤◌}
+use lib.ListN.{length, take}
 use Rattle.lists.specs.Put.{put}
 use Rattle.ksets.specs.Sets.{run}
-use Rattle.ksets.proofs.Raising.{run_start, run_more, run_all}
-use borrow.Author.Rules.{rules}
 use Rattle.ksets.proofs.write_run.Given as goal
 
 abbrev pub invariant-loop-i : goal.invariant-loop-i

@@ -1,6 +1,5 @@
 -- `message::first_strip` meets its contract: the head is short.
 use native.Mathlib.Omega.{arith}
-use borrow.Author.Rules.{rules}
 use Rattle.document.proofs.Message.{profile_short}
 use Rattle.message.proofs.first_strip.Goals as goal
 

@@ -1,5 +1,4 @@
 -- `message::put_recording` meets its contract.
-use borrow.Author.Rules.{rules}
 use Rattle.lists.proofs.Put.{wrote_same}
 use Rattle.message.proofs.put_recording.Goals as goal
 

@@ -1,12 +1,10 @@
 -- `message::put_strips` meets its contract. The invariant: the fields of the places passed are written.
 use mathlib.Core.Path.{◌≡◌, refl, sym, ap, subst, ◌∙◌}
 use mathlib.Core.List.{List, ◌++◌}
-use Prim.Native.Nat.{ℕ, ◌-◌, ◌/◌, ◌≤◌, ◌<◌, zero-le}
+use Prim.Native.Nat.{ℕ, ◌/◌, ◌<◌, zero-le}
 use native.Mathlib.Omega.{arith}
-use borrow.Author.Rules.{rules}
 use lib.ListN.{length}
 use Rattle.lists.specs.Listed.{listed}
-use Rattle.lists.specs.Put.{Wrote}
 use Rattle.lists.proofs.Each.{each_at}
 use Rattle.lists.proofs.Put.{wrote_none, wrote_then, wrote_same}
 use Rattle.document.specs.declared.Place.{Place}
@@ -39,8 +37,7 @@ module _ (c : After-place_at-q) where
 
 pub put_strip_of-next-requires : goal.put_strip_of-next-requires
 put_strip_of-next-requires c =
-    let l = c.loop-i in
-    (
+    let l = c.loop-i in (
       c.requires.0,
       subst (Within c.args.p) (sym c.place_at-q.ensures)
           (each_at (place 0 0) c.requires.1 (i (goal.at.put_strip_of-next-requires c).After-place_at-q) (omega (arith, below (goal.at.put_strip_of-next-requires c).After-place_at-q, places_length (places (goal.at.put_strip_of-next-requires c).After-place_at-q)))),

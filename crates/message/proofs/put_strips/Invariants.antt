@@ -1,21 +1,12 @@
 -- `message::put_strips` meets its contract. The invariant: the fields of the places passed are written.
-use mathlib.Core.Path.{◌≡◌, refl, sym, ap, subst, ◌∙◌}
-use mathlib.Core.List.{List, ◌++◌}
-use Prim.Native.Nat.{ℕ, ◌-◌, ◌/◌, ◌≤◌, ◌<◌, zero-le}
-use native.Mathlib.Omega.{arith}
-use borrow.Author.Rules.{rules}
+use mathlib.Core.Path.{◌≡◌}
+use Prim.Native.Nat.{◌-◌, ◌≤◌}
 use lib.ListN.{length}
 use Rattle.lists.specs.Listed.{listed}
 use Rattle.lists.specs.Put.{Wrote}
-use Rattle.lists.proofs.Each.{each_at}
-use Rattle.lists.proofs.Put.{wrote_none, wrote_then, wrote_same}
-use Rattle.document.specs.declared.Place.{Place}
-use Rattle.document.specs.Places.{place, Within}
 use Rattle.document.specs.Encoding.{strip_of}
 use Rattle.document.specs.Message.{strip_fields}
-use Rattle.document.proofs.Message.{field_at, fields_next}
-use Rattle.message.specs.PlaceBytes.{place_from, places_from}
-use Rattle.message.proofs.Places.{places_length, places_at_lem, next_fits}
+use Rattle.message.specs.PlaceBytes.{place_from}
 use Rattle.message.proofs.put_strips.Given as goal
 
 abbrev pub invariant-loop-i : goal.invariant-loop-i

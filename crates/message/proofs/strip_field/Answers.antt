@@ -2,7 +2,6 @@
 use mathlib.Core.Path.{ap₂}
 use Prim.Native.Nat.{ℕ, ◌+◌, ◌*◌}
 use native.Mathlib.Omega.{arith}
-use borrow.Author.Rules.{rules}
 use Rattle.document.specs.Message.{strip_field_start}
 use Rattle.document.proofs.Message.{profile_short}
 use Rattle.message.proofs.Fit.{fields_bound}

@@ -1,5 +1,4 @@
 -- `plan::in_step` meets its contract: the first of the two tests, as found, leaves the second.
-use borrow.Author.Rules.{rules}
 use Rattle.plan.specs.Steps.{in_step}
 use Rattle.document.specs.Plan.{is_own, is_diagonal, is_off_diagonal}
 use Rattle.std.proofs.lemmas.Bool.{eq-eqb, ne_eqb}
@@ -28,4 +27,3 @@ returns-then-not-group-2 c = rw (c.in-OffDiagonal.is, ne_eqb _ _ c.if-not-group-
 pub returns-else-not-group-2 : goal.returns-else-not-group-2
 unfolding in_step is_off_diagonal
 returns-else-not-group-2 c = rw (c.in-OffDiagonal.is, eq-eqb _ _ c.if-not-group-2.false)
-

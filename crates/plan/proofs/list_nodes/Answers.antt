@@ -1,7 +1,6 @@
 -- `plan::list_nodes` meets its contract: the nodes that the three steps list are the plan's.
 use Prim.Native.Nat.{◌+◌, ◌-◌, ◌≤◌, zero-le}
 use native.Mathlib.Omega.{arith}
-use borrow.Author.Rules.{rules}
 use Rattle.document.proofs.Walks.{walk_start_lem}
 use Rattle.plan.specs.Steps.{in_step}
 use Rattle.plan.proofs.Walked.{step_ends, nodes_written}
@@ -29,13 +28,12 @@ list_step-diagonal-requires c =
     (c.requires.0, begins (goal.at.list_step-diagonal-requires c).After-walk_start-start, omega arith, omega (arith, room (goal.at.list_step-diagonal-requires c).After-list_step-own, c.list_step-own.auto.out, c.requires.2))
 
 pub list_step-requires : goal.list_step-requires
-list_step-requires c =
-    (
-      c.requires.0,
-      begins (goal.at.list_step-requires c).After-walk_start-start,
-      step_ends _ _ (omega arith) c.list_step-diagonal.ensures,
-      omega (arith, room (goal.at.list_step-requires c).After-list_step-own, c.list_step-diagonal.auto.out, c.list_step-own.auto.out, c.requires.2),
-    )
+list_step-requires c = (
+  c.requires.0,
+  begins (goal.at.list_step-requires c).After-walk_start-start,
+  step_ends _ _ (omega arith) c.list_step-diagonal.ensures,
+  omega (arith, room (goal.at.list_step-requires c).After-list_step-own, c.list_step-diagonal.auto.out, c.list_step-own.auto.out, c.requires.2),
+)
 
 pub returns : goal.returns
 unfolding in_step

@@ -3,14 +3,10 @@
 use mathlib.Core.Path.{◌≡◌, refl, sym, ap, ap₂, subst, ◌∙◌}
 use mathlib.Core.Bool.{Bool, cond}
 use mathlib.Core.List.{List, [], ◌∷◌, ◌++◌}
-use Prim.Native.Nat.{ℕ, ◌+◌, ◌-◌, ◌%◌, ◌≤◌, ◌<◌, zero-le}
+use Prim.Native.Nat.{ℕ, ◌+◌, ◌%◌, ◌<◌, zero-le}
 use native.Mathlib.Nat.{mod-lt}
 use native.Mathlib.Omega.{arith}
-use borrow.Author.Rules.{rules}
-use borrow.Author.Tests.{ltb-true, ltb-false}
-use lib.ListN.{length}
 use Rattle.lists.specs.Listed.{rising, along}
-use Rattle.lists.specs.Put.{Wrote}
 use Rattle.lists.proofs.Put.{wrote_none, wrote_then, wrote_same}
 use Rattle.lists.proofs.Around.{along_next}
 use Rattle.plan.specs.Steps.{in_step}
@@ -45,21 +41,19 @@ module _ (c : After-in_step-wanted) where
       ap₂ (λ (b : Bool) (j : ℕ). cond b (j ∷ []) []) (c.in_step-wanted.ensures ∙ ap passes node) node
 
 pub put_if-next-requires : goal.put_if-next-requires
-put_if-next-requires c =
-    (
-      omega (
-        arith,
-        c.if-next-end.true,
-        c.requires.3,
-        c.loop-i.invariant.2,
-      ),
-      omega (arith, below (goal.at.put_if-next-requires c).After-in_step-wanted, c.requires.0.shape.few_nodes),
-    )
+put_if-next-requires c = (
+  omega (
+    arith,
+    c.if-next-end.true,
+    c.requires.3,
+    c.loop-i.invariant.2,
+  ),
+  omega (arith, below (goal.at.put_if-next-requires c).After-in_step-wanted, c.requires.0.shape.few_nodes),
+)
 
 pub loop-i-preserved : goal.loop-i-preserved
 loop-i-preserved c =
-    let l = c.loop-i in
-    (
+    let l = c.loop-i in (
       omega arith,
       omega (
         arith,

@@ -1,6 +1,5 @@
 -- `plan::plan` meets its contract: the head of a call.
 use mathlib.Core.Path.{sym, ◌∙◌}
-use borrow.Author.Rules.{rules}
 use Rattle.document.specs.Plan.{plan_of}
 use Rattle.document.proofs.Accepts.{accepted, rejected, passed}
 use Rattle.plan.proofs.plan.Goals as goal

@@ -1,7 +1,6 @@
 -- `plan::plan_with` meets its contract: each return is the answer of the tests that led there.
 use mathlib.Core.Path.{◌≡◌, sym, ◌∙◌}
 use native.Mathlib.Omega.{arith}
-use borrow.Author.Rules.{rules}
 use lib.ListN.{length}
 use Rattle.document.specs.Plan.{planned}
 use Rattle.document.proofs.Price.{planned_price}
@@ -26,12 +25,11 @@ returns-then-places-count c =
     buffer_refused _ _ _ (omega (arith, c.if-f-p.false)) (omega (arith, count (goal.at.returns-then-places-count c).After-price-count, c.if-places-count.true))
 
 pub put_plan-requires : goal.put_plan-requires
-put_plan-requires c =
-    (
-      c.requires,
-      omega (arith, c.if-f-p.false),
-      rw bytes_length (omega (arith, count (goal.at.put_plan-requires c).After-price-count, c.if-places-count.false)),
-    )
+put_plan-requires c = (
+  c.requires,
+  omega (arith, c.if-f-p.false),
+  rw bytes_length (omega (arith, count (goal.at.put_plan-requires c).After-price-count, c.if-places-count.false)),
+)
 
 pub returns : goal.returns
 returns c =

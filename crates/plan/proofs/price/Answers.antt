@@ -1,7 +1,6 @@
 -- `plan::price` meets its contract: there is at least one group.
 use native.Mathlib.Nat.{div-lt_iff_lt-mul}
 use native.Mathlib.Omega.{arith}
-use borrow.Author.Rules.{rules}
 use Rattle.document.proofs.Bounds.{A>0, n_is}
 use Rattle.plan.proofs.price.Goals as goal
 

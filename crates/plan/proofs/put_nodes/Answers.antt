@@ -1,12 +1,9 @@
 -- `plan::put_nodes` meets its contract. The invariant: the places of the nodes passed are written.
-use mathlib.Core.Path.{◌≡◌, refl, ap, ◌∙◌}
+use mathlib.Core.Path.{refl, ap, ◌∙◌}
 use mathlib.Core.List.{List}
-use Prim.Native.Nat.{ℕ, ◌-◌, ◌≤◌, zero-le}
+use Prim.Native.Nat.{ℕ, zero-le}
 use native.Mathlib.Omega.{arith}
-use borrow.Author.Rules.{rules}
-use lib.ListN.{length, take}
 use lib.Seq.{take_all}
-use Rattle.lists.specs.Put.{Wrote}
 use Rattle.lists.proofs.Put.{wrote_none, wrote_then, wrote_same}
 use Rattle.document.specs.Plan.{plan_bytes}
 use Rattle.plan.specs.Steps.{places_of}
@@ -23,8 +20,7 @@ overflow_cast-nodes c = omega (arith, c.type_inv.nodes c.loop-i.i)
 pub put_node-at-requires : goal.put_node-at-requires
 put_node-at-requires c =
     let l = c.loop-i in
-    let h = c.loop-i-test.true in
-    (
+    let h = c.loop-i-test.true in (
       c.requires.0,
       c.requires.1 l.i h,
       omega (
@@ -39,8 +35,7 @@ put_node-at-requires c =
 pub loop-i-preserved : goal.loop-i-preserved
 loop-i-preserved c =
     let l = c.loop-i in
-    let h = c.loop-i-test.true in
-    (
+    let h = c.loop-i-test.true in (
       omega arith,
       c.put_node-at.auto.out ∙ l.invariant.1,
       wrote_same (next_node c.args.p.a c.args.f c.args.nodes.now l.i h)

@@ -1,16 +1,10 @@
 -- `plan::put_nodes` meets its contract. The invariant: the places of the nodes passed are written.
-use mathlib.Core.Path.{◌≡◌, refl, ap, ◌∙◌}
-use mathlib.Core.List.{List}
-use Prim.Native.Nat.{ℕ, ◌-◌, ◌≤◌, zero-le}
-use native.Mathlib.Omega.{arith}
-use borrow.Author.Rules.{rules}
+use mathlib.Core.Path.{◌≡◌}
+use Prim.Native.Nat.{◌-◌, ◌≤◌}
 use lib.ListN.{length, take}
-use lib.Seq.{take_all}
 use Rattle.lists.specs.Put.{Wrote}
-use Rattle.lists.proofs.Put.{wrote_none, wrote_then, wrote_same}
 use Rattle.document.specs.Plan.{plan_bytes}
 use Rattle.plan.specs.Steps.{places_of}
-use Rattle.plan.proofs.Places.{next_node, next_fits}
 use Rattle.plan.proofs.put_nodes.Given as goal
 
 abbrev pub invariant-loop-i : goal.invariant-loop-i

@@ -1,6 +1,5 @@
 -- `plan::walk_start` meets its contract.
 use mathlib.Core.Path.{sym}
-use borrow.Author.Rules.{rules}
 use borrow.Author.Tests.{eq-eqb, ne_eqb}
 use Rattle.document.specs.Plan.{walk_start}
 use Rattle.plan.proofs.walk_start.Goals as goal

@@ -1,5 +1,4 @@
 -- `profile_field::content_bytes` meets its contract.
-use borrow.Author.Rules.{rules}
 use Rattle.profile_field.proofs.Content.{content_front}
 use Rattle.profile_field.proofs.content_bytes.Goals as goal
 

@@ -1,6 +1,5 @@
 -- `profile_field::field_length` meets its contract: the content is short.
 use native.Mathlib.Omega.{arith}
-use borrow.Author.Rules.{rules}
 use Rattle.document.proofs.Message.{profile_short}
 use Rattle.profile_field.proofs.field_length.Goals as goal
 

@@ -2,7 +2,6 @@
 use mathlib.Core.Path.{ap, ◌∙◌}
 use mathlib.Core.List.{List}
 use Prim.Native.Nat.{ℕ}
-use borrow.Author.Rules.{rules}
 use Rattle.gf256.specs.Field.{quotients_of}
 use Rattle.rebuild.proofs.divided_weights.Goals as goal
 

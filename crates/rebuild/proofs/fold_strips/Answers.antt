@@ -1,10 +1,10 @@
 -- `rebuild::fold_strips` meets its contract. The invariant: the strips of the nodes passed are folded, and m counts
 -- their places.
 use mathlib.Core.Path.{◌≡◌, refl, sym, ap, subst, ◌∙◌}
-use Prim.Native.Nat.{◌+◌, ◌-◌, ◌*◌, ◌≤◌, zero-le}
+use Prim.Native.Nat.{◌+◌, ◌*◌, ◌≤◌, zero-le}
 use native.Mathlib.Omega.{arith}
 use borrow.Author.Rules.{rules}
-use lib.ListN.{length, get_or, take, length-append, length-take, length-drop}
+use lib.ListN.{length, get_or, length-append, length-take, length-drop}
 use lib.Seq.{take_all}
 use Rattle.document.specs.declared.Profile.{Profile}
 use Rattle.document.specs.Plan.{planned}

@@ -1,20 +1,12 @@
 -- `rebuild::fold_strips` meets its contract. The invariant: the strips of the nodes passed are folded, and m counts
 -- their places.
-use mathlib.Core.Path.{◌≡◌, refl, sym, ap, subst, ◌∙◌}
-use Prim.Native.Nat.{◌+◌, ◌-◌, ◌*◌, ◌≤◌, zero-le}
-use native.Mathlib.Omega.{arith}
-use borrow.Author.Rules.{rules}
-use lib.ListN.{length, get_or, take, length-append, length-take, length-drop}
-use lib.Seq.{take_all}
-use Rattle.document.specs.declared.Profile.{Profile}
+use mathlib.Core.Path.{◌≡◌}
+use Prim.Native.Nat.{◌-◌, ◌*◌, ◌≤◌}
+use lib.ListN.{length, take}
 use Rattle.document.specs.Plan.{planned}
 use Rattle.document.specs.Rebuild.{given_at}
-use Rattle.document.proofs.Bounds.{room}
 use Rattle.plan.specs.Steps.{places_of}
-use Rattle.plan.proofs.Places.{next_places}
-use Rattle.rebuild.specs.Folded.{folded_of, NodeAt}
-use Rattle.rebuild.proofs.Folded.{none_folded, next_strip}
-use Rattle.rebuild.proofs.Given.{node_at}
+use Rattle.rebuild.specs.Folded.{folded_of}
 use Rattle.rebuild.proofs.fold_strips.Given as goal
 
 abbrev pub invariant-loop-i : goal.invariant-loop-i

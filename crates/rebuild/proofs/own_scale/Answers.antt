@@ -1,7 +1,6 @@
 -- `rebuild::own_scale` meets its contract: off the diagonal of coupling no factor is 0.
 use mathlib.Core.Path.{sym, ap, ◌∙◌}
 use native.Mathlib.Nat.{mod-lt}
-use borrow.Author.Rules.{rules}
 use Rattle.gf256.specs.Field.{inverse}
 use Rattle.document.proofs.Bounds.{A>0}
 use Rattle.document.proofs.ByteField.{number_inv}

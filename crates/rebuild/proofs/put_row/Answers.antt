@@ -70,9 +70,9 @@ sum_row-requires c =
       accepted = (c.requires.accepted.0, c.requires.dst_len.0, sym (slice_bounds-sum_row-end c));
       s_in_bounds = c.requires.dst_len.1;
       i_lt_a = (
-          c.requires.accepted.2,
-          λ d. omega (arith, c.position_of-at.ensures, c.requires.accepted.3.others c.args.i c.requires.accepted.2 d),
-        );
+        c.requires.accepted.2,
+        λ d. omega (arith, c.position_of-at.ensures, c.requires.accepted.3.others c.args.i c.requires.accepted.2 d),
+      );
     }
 
 pub returns : goal.returns

@@ -1,6 +1,5 @@
 -- `rebuild::rebuild` meets its contract: the head of a call.
 use mathlib.Core.Path.{sym, ◌∙◌}
-use borrow.Author.Rules.{rules}
 use Rattle.document.specs.Rebuild.{rebuild_of}
 use Rattle.document.proofs.Accepts.{accepted, rejected, passed}
 use Rattle.rebuild.proofs.rebuild.Goals as goal

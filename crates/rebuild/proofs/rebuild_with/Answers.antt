@@ -3,7 +3,6 @@
 use mathlib.Core.Path.{sym, ap₂, ◌∙◌}
 use Prim.Native.Nat.{◌<◌}
 use native.Mathlib.Omega.{arith}
-use borrow.Author.Rules.{rules}
 use Rattle.document.specs.Rebuild.{rebuilt_of}
 use Rattle.document.proofs.Bounds.{column_bound}
 use Rattle.rebuild.proofs.Answers.{node_refused, column_refused, bundle_refused, bundle_done, strips_fit}

@@ -47,9 +47,9 @@ divided_weights-requires c =
     let alike = c.requires.denominators_value.1 in record {
       different = (c.requires.nodes_len.1, c.requires.nodes_len.2, c.requires.denominators_value.0);
       no_zero = (
-          subst NoZero (sym alike) (determinants_no_zero p c.args.f c.requires.accepted.0 nodes),
-          ap length alike ∙ determinants_length p c.args.f nodes,
-        );
+        subst NoZero (sym alike) (determinants_no_zero p c.args.f c.requires.accepted.0 nodes),
+        ap length alike ∙ determinants_length p c.args.f nodes,
+      );
       out_len = sym (slice_bounds-divided_weights-end c) ∙ sym c.requires.nodes_len.0;
     }
 

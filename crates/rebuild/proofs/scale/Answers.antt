@@ -1,6 +1,5 @@
 -- `rebuild::scale` meets its contract: each return is one case of the scale.
 use mathlib.Core.Path.{ap₂, ◌∙◌}
-use borrow.Author.Rules.{rules}
 use Rattle.gf256.specs.Field.{◌⊕◌}
 use Rattle.rebuild.proofs.Factors.{scale_lost, scale_other}
 use Rattle.rebuild.proofs.scale.Goals as goal

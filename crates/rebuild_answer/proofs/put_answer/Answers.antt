@@ -1,6 +1,6 @@
 -- `rebuild_answer::put_answer` meets its contract: the column stays where it was rebuilt; a refused rebuild changes no
 -- byte, and the line is written over what was there.
-use mathlib.Core.Path.{◌≡◌, refl, sym, ◌∙◌}
+use mathlib.Core.Path.{◌≡◌, refl, ◌∙◌}
 use mathlib.Core.List.{◌++◌}
 use Prim.Native.Nat.{◌*◌, ◌≤◌, min}
 use native.Mathlib.Nat.{mul-le-mul}
@@ -47,11 +47,10 @@ module _ (r : After-rebuild_input-outcome) where
       r.rebuild_input-outcome.auto.column
 
 pub put_line-requires : goal.put_line-requires
-put_line-requires c =
-    (
-      omega (arith, whole (goal.at.put_line-requires c).After-rebuild_input-outcome, c.requires),
-      index_small _ _ (same (goal.at.put_line-requires c).After-rebuild_input-outcome) _ (lent (goal.at.put_line-requires c).After-rebuild_input-outcome) c.rebuild_input-outcome.ensures c.in-Refused.is,
-    )
+put_line-requires c = (
+  omega (arith, whole (goal.at.put_line-requires c).After-rebuild_input-outcome, c.requires),
+  index_small _ _ (same (goal.at.put_line-requires c).After-rebuild_input-outcome) _ (lent (goal.at.put_line-requires c).After-rebuild_input-outcome) c.rebuild_input-outcome.ensures c.in-Refused.is,
+)
 
 pub returns-in-Done : goal.returns-in-Done
 returns-in-Done c =

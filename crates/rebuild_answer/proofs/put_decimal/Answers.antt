@@ -1,7 +1,6 @@
 -- `rebuild_answer::put_decimal` meets its contract: one digit, or two.
 use lib.ListN.{length-set}
 use native.Mathlib.Omega.{arith}
-use borrow.Author.Rules.{rules}
 use Rattle.rebuild_answer.proofs.Text.{one_digit, two_digits}
 use Rattle.rebuild_answer.proofs.put_decimal.Goals as goal
 

@@ -1,7 +1,6 @@
 -- `rebuild_answer::put_line` meets its contract: the parts of the line are written in a row.
 use Prim.Native.Nat.{◌+◌, ◌≤◌}
 use native.Mathlib.Omega.{arith}
-use borrow.Author.Rules.{rules}
 use Rattle.document.proofs.Refusals.{number_bound}
 use Rattle.rebuild_answer.proofs.Text.{number_ends, refused_text, at_text, line_written}
 use Rattle.rebuild_answer.proofs.put_line.Goals.{After-put_number-index, After-put_number-number}

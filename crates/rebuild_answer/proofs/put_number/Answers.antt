@@ -1,6 +1,5 @@
 -- `rebuild_answer::put_number` meets its contract: the number is written where the text ends.
 use native.Mathlib.Omega.{arith}
-use borrow.Author.Rules.{rules}
 use Rattle.lists.proofs.Put.{wrote_then}
 use Rattle.rebuild_answer.proofs.put_number.Goals as goal
 

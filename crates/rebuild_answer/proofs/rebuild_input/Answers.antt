@@ -1,6 +1,5 @@
 -- `rebuild_answer::rebuild_input` meets its contract: what follows the head is the bundle.
 use mathlib.Core.Path.{◌∙◌}
-use borrow.Author.Rules.{rules}
 use Rattle.rebuild_answer.proofs.Answers.{bundle_part, read_rebuilt}
 use Rattle.rebuild_answer.proofs.rebuild_input.Goals as goal
 

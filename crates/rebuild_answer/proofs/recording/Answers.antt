@@ -1,7 +1,6 @@
 -- `rebuild_answer::recording` meets its contract: four bytes and two, high byte first.
 use mathlib.Core.Path.{refl}
 use Rattle.document.specs.Program.{wanted_recording}
-use borrow.Author.Rules.{rules}
 use Rattle.rebuild_answer.proofs.recording.Goals as goal
 
 pub returns : goal.returns

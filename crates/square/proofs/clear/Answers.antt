@@ -2,12 +2,8 @@
 -- the entries of the lines passed are gathered. A line with the multiplier 0 is left alone, which is what adding 0
 -- times a line gives.
 use mathlib.Core.Path.{◌≡◌}
-use mathlib.Core.Logic.{⊎_elim}
-use Prim.Native.Nat.{◌-◌, ◌≤◌}
 use native.Mathlib.Omega.{arith}
-use lib.ListN.{get_or}
-use Rattle.square.specs.Columns.{Gathered}
-use Rattle.square.proofs.Columns.{gathered_none, gathered_more, gathered_of, step_line, Stepping}
+use Rattle.square.proofs.Columns.{gathered_none, gathered_more, gathered_of}
 use Rattle.square.proofs.Columns.{stepping_none, stepping_next, stepping_skip, stepping_line, stepping_all}
 use Rattle.square.proofs.Columns.{step_added, step_none}
 use borrow.Author.Rules.{rules}
@@ -21,14 +17,14 @@ pub loop-i-preserved : goal.loop-i-preserved
 loop-i-preserved c =
     let l = c.loop-i in
     elim c.if-f-ne0.branch [
-      then-f-ne0 w ↦
-        let e = step_added l.invariant.1 w.line_added-w.ensures in
-        rw w.z-is
-        (search rules, stepping_next l.invariant.1 e, gathered_more l.invariant.2 (omega arith) (rw (← e) w.entry_at-v.ensures))
+      | then-f-ne0 w ↦
+          let e = step_added l.invariant.1 w.line_added-w.ensures in
+          rw w.z-is
+          (search rules, stepping_next l.invariant.1 e, gathered_more l.invariant.2 (omega arith) (rw (← e) w.entry_at-v.ensures))
       | else-f-ne0 w ↦
-        let e = step_none l.invariant.1 w.if-f-ne0.false in
-        rw w.z-is
-        (search rules, stepping_skip l.invariant.1 e, gathered_more l.invariant.2 (omega arith) (rw (← e) w.entry_at-v-else-f-ne0.ensures))
+          let e = step_none l.invariant.1 w.if-f-ne0.false in
+          rw w.z-is
+          (search rules, stepping_skip l.invariant.1 e, gathered_more l.invariant.2 (omega arith) (rw (← e) w.entry_at-v-else-f-ne0.ensures))
     ]
 
 pub returns : goal.returns

@@ -1,16 +1,10 @@
 -- `square::clear` meets its contract. The loop's invariant: the lines passed are stepped, the others as they were, and
 -- the entries of the lines passed are gathered. A line with the multiplier 0 is left alone, which is what adding 0
 -- times a line gives.
-use mathlib.Core.Path.{◌≡◌}
-use mathlib.Core.Logic.{⊎_elim}
 use Prim.Native.Nat.{◌-◌, ◌≤◌}
-use native.Mathlib.Omega.{arith}
 use lib.ListN.{get_or}
 use Rattle.square.specs.Columns.{Gathered}
-use Rattle.square.proofs.Columns.{gathered_none, gathered_more, gathered_of, step_line, Stepping}
-use Rattle.square.proofs.Columns.{stepping_none, stepping_next, stepping_skip, stepping_line, stepping_all}
-use Rattle.square.proofs.Columns.{step_added, step_none}
-use borrow.Author.Rules.{rules}
+use Rattle.square.proofs.Columns.{step_line, Stepping}
 use Rattle.square.proofs.clear.Given as goal
 
 abbrev pub invariant-loop-i : goal.invariant-loop-i

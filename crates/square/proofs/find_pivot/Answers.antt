@@ -1,12 +1,8 @@
 -- `square::find_pivot` meets its contract. The loop's invariant: in each column that has these entries, the search from
 -- the line reached finds what the search from the first line finds.
-use mathlib.Core.Path.{◌≡◌, sym, ◌∙◌}
-use mathlib.Core.List.{List}
-use Prim.Native.Nat.{ℕ, ◌-◌, ◌<◌}
+use mathlib.Core.Path.{sym, ◌∙◌}
+use Prim.Native.Nat.{◌<◌}
 use native.Mathlib.Omega.{arith}
-use Rattle.square.specs.declared.Line.{Line}
-use Rattle.square.specs.Steps.{pivot_from}
-use Rattle.square.specs.Columns.{EntriesOf}
 use Rattle.square.proofs.Pivots.{pivot_next, pivot_here, pivot_none}
 use borrow.Author.Rules.{rules}
 use Rattle.square.proofs.find_pivot.Goals as goal

@@ -1,13 +1,8 @@
 -- `square::follow` meets its contract. The loop's invariant: the lines passed are stepped, the others as they were. A
 -- line with the multiplier 0 is left alone, which is what adding 0 times a line gives.
-use mathlib.Core.Path.{◌≡◌}
-use mathlib.Core.Logic.{⊎_elim}
 use Prim.Native.Nat.{◌-◌, ◌≤◌}
-use native.Mathlib.Omega.{arith}
 use lib.ListN.{get_or}
-use Rattle.square.proofs.Columns.{Stepping, stepping_none, step_added, step_none}
-use Rattle.square.proofs.Columns.{stepping_next, stepping_skip, stepping_all}
-use borrow.Author.Rules.{rules}
+use Rattle.square.proofs.Columns.{Stepping}
 use Rattle.square.proofs.follow.Given as goal
 
 abbrev pub invariant-loop-i : goal.invariant-loop-i

@@ -1,8 +1,6 @@
 -- `square::invert` meets its contract. The loop's invariant: the elimination that is left, on the square and right half
 -- reached, ends as the whole one does.
-use Prim.Native.Nat.{◌-◌, ◌<◌}
-use Rattle.square.specs.Elimination.{eliminated}
-use Rattle.square.proofs.Ends.{Reached, reached_none, reached_all, reached_stuck, reached_pivot, reached_next}
+use Rattle.square.proofs.Ends.{reached_none, reached_all, reached_stuck, reached_pivot, reached_next}
 use borrow.Author.Rules.{rules}
 use Rattle.square.proofs.invert.Goals as goal
 

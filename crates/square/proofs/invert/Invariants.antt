@@ -1,9 +1,8 @@
 -- `square::invert` meets its contract. The loop's invariant: the elimination that is left, on the square and right half
 -- reached, ends as the whole one does.
-use Prim.Native.Nat.{◌-◌, ◌<◌}
+use Prim.Native.Nat.{◌-◌}
 use Rattle.square.specs.Elimination.{eliminated}
-use Rattle.square.proofs.Ends.{Reached, reached_none, reached_all, reached_stuck, reached_pivot, reached_next}
-use borrow.Author.Rules.{rules}
+use Rattle.square.proofs.Ends.{Reached}
 use Rattle.square.proofs.invert.Given as goal
 
 abbrev pub invariant-loop-r : goal.invariant-loop-r

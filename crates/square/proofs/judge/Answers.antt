@@ -1,13 +1,9 @@
 -- `square::judge` meets its contract. The loop keeps no right half, so the invariant says of some right half what that
 -- of `invert` says of the one it keeps.
 use mathlib.Core.Path.{refl, ap}
-use mathlib.Core.List.{List}
-use Prim.Native.Nat.{◌-◌, ◌<◌}
-use Rattle.square.specs.declared.Line.{Line}
 use Rattle.square.specs.declared.Eliminated.{Eliminated}
 use Rattle.square.specs.Steps.{unit_square}
-use Rattle.square.specs.Elimination.{eliminated}
-use Rattle.square.proofs.Ends.{Reached, reached_none, reached_all, reached_stuck, reached_pivot, reached_next}
+use Rattle.square.proofs.Ends.{reached_none, reached_all, reached_stuck, reached_pivot, reached_next}
 use borrow.Author.Rules.{rules}
 use Rattle.square.proofs.judge.Goals as goal
 
@@ -24,12 +20,11 @@ returns-in-Missing c =
     (reached_stuck c.loop-r.invariant.1 c.loop-r-test.true c.find_pivot.ensures c.in-Missing.is))
 
 pub loop-r-preserved : goal.loop-r-preserved
-loop-r-preserved c =
-    (
-      _,
-      reached_next c.loop-r.invariant.1 c.loop-r-test.true c.find_pivot.ensures c.in-At.is
-          c.multipliers-c.ensures c.clear-b.ensures refl,
-    )
+loop-r-preserved c = (
+  _,
+  reached_next c.loop-r.invariant.1 c.loop-r-test.true c.find_pivot.ensures c.in-At.is
+      c.multipliers-c.ensures c.clear-b.ensures refl,
+)
 
 pub returns : goal.returns
 returns c =

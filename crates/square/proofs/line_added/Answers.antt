@@ -1,5 +1,4 @@
 -- `square::line_added` meets its contract: both lines have 80 entries, so the strip to be added fits.
-use native.Mathlib.Omega.{arith}
 use borrow.Author.Rules.{rules}
 use Rattle.square.proofs.line_added.Goals as goal
 

@@ -12,7 +12,6 @@ use Rattle.gf256.proofs.Ring.{zero-add}
 use Rattle.strips.specs.Strips.{added_scaled}
 use Rattle.strips.proofs.Added.{added_length, added_at_lem}
 use Rattle.square.proofs.Steps.{set_at}
-use borrow.Author.Rules.{rules}
 use Rattle.square.proofs.multipliers.Goals as goal
 
 -- What the array holds: v times the entries, and 1 ⊕ v at r, where v is the inverse of the pivot.

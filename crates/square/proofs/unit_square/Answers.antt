@@ -2,7 +2,7 @@
 -- 80 of them are all.
 use mathlib.Core.Path.{◌≡◌, ap, ap₂, ◌∙◌}
 use mathlib.Core.List.{List}
-use Prim.Native.Nat.{ℕ, ◌-◌, ◌≤◌, ◌<◌}
+use Prim.Native.Nat.{ℕ, ◌<◌}
 use native.Mathlib.Omega.{arith}
 use lib.ListN.{set, replicate, length-replicate, get_or-replicate}
 use Rattle.square.specs.declared.Line.{Line}

@@ -1,14 +1,10 @@
 -- `square::unit_square` meets its contract. The loop's invariant: the lines passed have their 1, the others are zeros;
 -- 80 of them are all.
-use mathlib.Core.Path.{◌≡◌, ap, ap₂, ◌∙◌}
-use mathlib.Core.List.{List}
-use Prim.Native.Nat.{ℕ, ◌-◌, ◌≤◌, ◌<◌}
-use native.Mathlib.Omega.{arith}
-use lib.ListN.{set, replicate, length-replicate, get_or-replicate}
+use mathlib.Core.Path.{◌≡◌}
+use Prim.Native.Nat.{ℕ, ◌-◌, ◌≤◌}
+use lib.ListN.{replicate}
 use Rattle.square.specs.declared.Line.{Line}
-use Rattle.square.specs.Steps.{no_line, line_at, filled, unit_line, unit_square}
-use Rattle.square.proofs.Steps.{filled_none, filled_next, filled_rest, filled_all, unit_line_set}
-use borrow.Author.Rules.{rules}
+use Rattle.square.specs.Steps.{filled, unit_line}
 use Rattle.square.proofs.unit_square.Given as goal
 
 abbrev pub unit_at : ℕ → Line

@@ -1,12 +1,7 @@
 -- `strips::add` meets its contract. The invariant: the first b offsets of the strip are added.
-use mathlib.Core.Path.{refl}
 use Prim.Native.Nat.{◌-◌}
-use native.Mathlib.Omega.{arith}
-use borrow.Author.Rules.{rules}
 use lib.ListN.{length}
-use Rattle.gf256.specs.Field.{◌⊕◌}
-use Rattle.strips.specs.Strips.{added_strip}
-use Rattle.strips.proofs.Added.{Adding, adding_none, adding_more, adding_all}
+use Rattle.strips.proofs.Added.{Adding}
 use Rattle.strips.proofs.add.Given as goal
 
 abbrev pub invariant-loop-b : goal.invariant-loop-b

@@ -2,7 +2,6 @@
 use mathlib.Core.Path.{◌≡◌, sym, ap, ◌∙◌}
 use Prim.Native.Nat.{ℕ, ◌%◌}
 use native.Mathlib.Omega.{arith}
-use borrow.Author.Rules.{rules}
 use Rattle.strips.specs.Strips.{added_scaled}
 use Rattle.strips.proofs.Added.{added_once, added_zero}
 use Rattle.strips.proofs.add_bit.Goals as goal

@@ -1,12 +1,10 @@
 -- `strips::add_four` meets its contract.
 use mathlib.Core.Path.{ap, ◌∙◌}
-use Prim.Native.Nat.{ℕ, ◌-◌}
+use Prim.Native.Nat.{ℕ}
 use native.Mathlib.Omega.{arith}
-use borrow.Author.Rules.{rules}
-use lib.ListN.{length, get_or}
 use Rattle.gf256.specs.Field.{◌⊕◌}
 use Rattle.strips.specs.Planes.{doubled_if, sum_four, added_four}
-use Rattle.lists.proofs.Written.{Written, written_none, written_all, written_next, written_more}
+use Rattle.lists.proofs.Written.{written_none, written_all, written_next, written_more}
 use Rattle.strips.proofs.add_four.Goals as goal
 
 pub loop-b-init : goal.loop-b-init

@@ -1,12 +1,8 @@
 -- `strips::add_four` meets its contract.
-use mathlib.Core.Path.{ap, ◌∙◌}
-use Prim.Native.Nat.{ℕ, ◌-◌}
-use native.Mathlib.Omega.{arith}
-use borrow.Author.Rules.{rules}
+use Prim.Native.Nat.{◌-◌}
 use lib.ListN.{length, get_or}
-use Rattle.gf256.specs.Field.{◌⊕◌}
-use Rattle.strips.specs.Planes.{doubled_if, sum_four, added_four}
-use Rattle.lists.proofs.Written.{Written, written_none, written_all, written_next, written_more}
+use Rattle.strips.specs.Planes.{doubled_if, sum_four}
+use Rattle.lists.proofs.Written.{Written}
 use Rattle.strips.proofs.add_four.Given as goal
 
 abbrev pub invariant-loop-b : goal.invariant-loop-b

@@ -2,10 +2,9 @@
 -- what it would have made of it when the loop began; and what is left of the strip is what would have been left of it.
 use mathlib.Core.Path.{◌≡◌, refl, sym, ap, ◌∙◌}
 use mathlib.Core.List.{List}
-use Prim.Native.Nat.{ℕ, ◌/◌, ◌<◌}
+use Prim.Native.Nat.{ℕ, ◌/◌}
 use native.Mathlib.Omega.{arith}
 use borrow.Author.Rules.{rules}
-use lib.ListN.{length}
 use Rattle.strips.specs.Strips.{added_scaled, doubled_strip, doubled_while}
 use Rattle.strips.proofs.Added.{
   added_zero,

@@ -1,20 +1,9 @@
 -- `strips::add_multiple` meets its contract. The invariant: what is left to add, y times the doubled strip, makes of x
 -- what it would have made of it when the loop began; and what is left of the strip is what would have been left of it.
-use mathlib.Core.Path.{◌≡◌, refl, sym, ap, ◌∙◌}
-use mathlib.Core.List.{List}
-use Prim.Native.Nat.{ℕ, ◌/◌, ◌<◌}
-use native.Mathlib.Omega.{arith}
-use borrow.Author.Rules.{rules}
+use mathlib.Core.Path.{◌≡◌}
+use Prim.Native.Nat.{◌<◌}
 use lib.ListN.{length}
 use Rattle.strips.specs.Strips.{added_scaled, doubled_strip, doubled_while}
-use Rattle.strips.proofs.Added.{
-  added_zero,
-  added_bit,
-  doubled_next,
-  doubled_no_more,
-  used_whole,
-  used_by_bits,
-}
 use Rattle.strips.proofs.add_multiple.Given as goal
 
 abbrev pub invariant-loop-y : goal.invariant-loop-y

@@ -1,11 +1,8 @@
 -- `strips::add_scaled` meets its contract. The invariant: the first b offsets of the strip are added, c times.
 use Prim.Native.Nat.{◌-◌}
-use native.Mathlib.Omega.{arith}
-use borrow.Author.Rules.{rules}
 use lib.ListN.{length}
-use Rattle.gf256.specs.Field.{◌⊕◌, ◌⊗◌}
-use Rattle.strips.specs.Strips.{added_scaled}
-use Rattle.strips.proofs.Added.{Adding, adding_none, adding_more, adding_all}
+use Rattle.gf256.specs.Field.{◌⊗◌}
+use Rattle.strips.proofs.Added.{Adding}
 use Rattle.strips.proofs.add_scaled.Given as goal
 
 abbrev pub invariant-loop-b : goal.invariant-loop-b

@@ -1,9 +1,8 @@
 -- `strips::combine` meets its contract. The invariant: dst is the combination with the weights' bits from i on.
 use mathlib.Core.Path.{◌≡◌, refl, sym, ap, ap₂, ◌∙◌}
-use Prim.Native.Nat.{ℕ, ◌≤◌}
+use Prim.Native.Nat.{ℕ}
 use native.Mathlib.Omega.{arith}
 use lib.ListN.{length, length-replicate}
-use borrow.Author.Rules.{rules}
 use Rattle.lists.specs.Listed.{listed}
 use Rattle.strips.specs.Strips.{combination_of}
 use Rattle.strips.specs.Planes.{shifted_by}

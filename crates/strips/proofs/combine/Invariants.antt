@@ -1,13 +1,9 @@
 -- `strips::combine` meets its contract. The invariant: dst is the combination with the weights' bits from i on.
-use mathlib.Core.Path.{◌≡◌, refl, sym, ap, ap₂, ◌∙◌}
-use Prim.Native.Nat.{ℕ, ◌≤◌}
-use native.Mathlib.Omega.{arith}
-use lib.ListN.{length, length-replicate}
-use borrow.Author.Rules.{rules}
-use Rattle.lists.specs.Listed.{listed}
+use mathlib.Core.Path.{◌≡◌}
+use Prim.Native.Nat.{◌≤◌}
+use lib.ListN.{length}
 use Rattle.strips.specs.Strips.{combination_of}
 use Rattle.strips.specs.Planes.{shifted_by}
-use Rattle.strips.proofs.Combination.{horner, horner_none, horner_all}
 use Rattle.strips.proofs.combine.Given as goal
 
 abbrev pub invariant-loop-i : goal.invariant-loop-i

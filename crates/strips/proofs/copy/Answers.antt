@@ -1,10 +1,7 @@
 -- `strips::copy` meets its contract.
 use mathlib.Core.Path.{refl}
-use Prim.Native.Nat.{◌+◌, ◌-◌}
 use native.Mathlib.Omega.{arith}
-use borrow.Author.Rules.{rules}
-use lib.ListN.{length, get_or}
-use Rattle.lists.proofs.Written.{Written, written_none, written_all, written_more}
+use Rattle.lists.proofs.Written.{written_none, written_all, written_more}
 use Rattle.strips.specs.Strips.{strip_at}
 use Rattle.strips.proofs.copy.Goals as goal
 

@@ -1,15 +1,11 @@
 -- `strips::double_add` meets its contract. The invariant: dst is x doubled with the first j sources added, for
 -- any x of which it was the double with the first four when the loop began.
-use mathlib.Core.Path.{◌≡◌, refl, ap, ◌∙◌}
+use mathlib.Core.Path.{◌≡◌}
 use mathlib.Core.Bool.{true}
 use mathlib.Core.List.{List}
 use Prim.Native.Nat.{ℕ, ◌-◌}
-use native.Mathlib.Omega.{arith}
 use lib.ListN.{length, take}
-use lib.Seq.{take_all, length-take-le}
-use borrow.Author.Rules.{rules}
-use Rattle.strips.specs.Planes.{Lent, added_with}
-use Rattle.strips.proofs.Passes.{added_more}
+use Rattle.strips.specs.Planes.{added_with}
 use Rattle.strips.proofs.double_add.Given as goal
 
 abbrev pub invariant-loop-j : goal.invariant-loop-j

@@ -1,12 +1,9 @@
 -- `strips::double_strip` meets its contract.
 use mathlib.Core.Path.{ap, ◌∙◌}
-use Prim.Native.Nat.{◌-◌}
 use native.Mathlib.Omega.{arith}
-use borrow.Author.Rules.{rules}
-use lib.ListN.{length, get_or}
 use Rattle.gf256.specs.Field.{double}
 use Rattle.strips.specs.Strips.{doubled_strip}
-use Rattle.lists.proofs.Written.{Written, written_none, written_all, written_next, written_more}
+use Rattle.lists.proofs.Written.{written_none, written_all, written_next, written_more}
 use Rattle.strips.proofs.double_strip.Goals as goal
 
 pub loop-b-init : goal.loop-b-init

@@ -1,5 +1,4 @@
 -- `strips::doubled_if` meets its contract.
-use borrow.Author.Rules.{rules}
 use Rattle.strips.proofs.doubled_if.Goals as goal
 
 pub returns-then-doubled : goal.returns-then-doubled

@@ -1,10 +1,7 @@
 -- `strips::fill` meets its contract.
 use mathlib.Core.Path.{refl}
-use Prim.Native.Nat.{◌-◌}
 use native.Mathlib.Omega.{arith}
-use borrow.Author.Rules.{rules}
-use lib.ListN.{length}
-use Rattle.lists.proofs.Written.{Written, written_none, written_all, written_more}
+use Rattle.lists.proofs.Written.{written_none, written_all, written_more}
 use Rattle.strips.proofs.fill.Goals as goal
 
 pub loop-b-init : goal.loop-b-init

@@ -1,10 +1,7 @@
 -- `strips::fill` meets its contract.
-use mathlib.Core.Path.{refl}
 use Prim.Native.Nat.{◌-◌}
-use native.Mathlib.Omega.{arith}
-use borrow.Author.Rules.{rules}
 use lib.ListN.{length}
-use Rattle.lists.proofs.Written.{Written, written_none, written_all, written_more}
+use Rattle.lists.proofs.Written.{Written}
 use Rattle.strips.proofs.fill.Given as goal
 
 abbrev pub invariant-loop-b : goal.invariant-loop-b

@@ -1,11 +1,9 @@
 -- `strips::gather` meets its contract. The invariant: the offsets of the sources passed are gathered.
-use mathlib.Core.Path.{◌≡◌, refl, ap, ◌∙◌}
-use Prim.Native.Nat.{ℕ, ◌-◌}
+use mathlib.Core.Path.{refl, ap, ◌∙◌}
+use Prim.Native.Nat.{ℕ}
 use native.Mathlib.Omega.{arith}
-use borrow.Author.Rules.{rules}
-use lib.ListN.{length}
-use Prim.Native.Nat.{◌≤◌, zero-le}
-use lib.ListN.{take, length-set}
+use Prim.Native.Nat.{zero-le}
+use lib.ListN.{length-set}
 use lib.Seq.{take_all}
 use mathlib.Core.List.{List}
 use Rattle.strips.specs.Planes.{bits_at, offsets_of}

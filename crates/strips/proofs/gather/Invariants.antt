@@ -1,15 +1,10 @@
 -- `strips::gather` meets its contract. The invariant: the offsets of the sources passed are gathered.
-use mathlib.Core.Path.{◌≡◌, refl, ap, ◌∙◌}
-use Prim.Native.Nat.{ℕ, ◌-◌}
-use native.Mathlib.Omega.{arith}
-use borrow.Author.Rules.{rules}
+use mathlib.Core.Path.{◌≡◌}
+use Prim.Native.Nat.{◌-◌}
 use lib.ListN.{length}
-use Prim.Native.Nat.{◌≤◌, zero-le}
-use lib.ListN.{take, length-set}
-use lib.Seq.{take_all}
-use mathlib.Core.List.{List}
+use Prim.Native.Nat.{◌≤◌}
+use lib.ListN.{take}
 use Rattle.strips.specs.Planes.{bits_at, offsets_of}
-use Rattle.strips.proofs.Gathered.{gathered}
 use Rattle.strips.proofs.gather.Given as goal
 
 abbrev pub invariant-loop-q : goal.invariant-loop-q

@@ -5,7 +5,6 @@ use Prim.Native.Nat.{ℕ, ◌+◌, ◌-◌, ◌≤◌, ◌<◌}
 use native.Mathlib.Omega.{arith}
 use lib.ListN.{length, get_or, take, drop, length-replicate}
 use lib.Seq.{get_or-take, length-take-le}
-use borrow.Author.Rules.{rules}
 use Rattle.strips.specs.Planes.{Lent, part_of}
 use Rattle.strips.proofs.Passes.{part_here, part_past}
 use Rattle.strips.proofs.part.Goals as goal

@@ -4,7 +4,6 @@ use Prim.Native.Nat.{ℕ, ◌+◌}
 use lib.ListN.{length, take}
 use Rattle.strips.specs.Planes.{part_of}
 use Rattle.strips.proofs.Passes.{part_length, added_pass}
-use borrow.Author.Rules.{rules}
 use Rattle.strips.proofs.pass.Goals as goal
 
 pub add_four-requires : goal.add_four-requires

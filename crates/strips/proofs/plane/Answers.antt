@@ -7,7 +7,6 @@ use lib.ListN.{length, replicate}
 use Rattle.strips.specs.Strips.{SourcesFit}
 use Rattle.strips.specs.Planes.{bits_at, offsets_of, Lent}
 use Rattle.strips.proofs.Gathered.{gathered_inside, plane_gathered}
-use borrow.Author.Rules.{rules}
 use Rattle.strips.proofs.plane.Goals as goal
 
 lent : (i : ℕ) (ws src zeros : List ℕ) (first stride : ℕ) {os : List ℕ} {n : ℕ}

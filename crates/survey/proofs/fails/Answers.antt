@@ -1,6 +1,5 @@
 -- `survey::fails` meets its contract: the verdict on the system of the half pairs tells whether the set is ambiguous.
 use mathlib.Core.Path.{◌≡◌, sym, ap, ◌∙◌}
-use borrow.Author.Rules.{rules}
 use Rattle.square.specs.declared.Eliminated.{Eliminated}
 use Rattle.half_pairs.specs.HalfPairs.{system_end}
 use Rattle.half_pairs.proofs.System.{stuck_ambiguous, regular_clear, count_few, system_end_lem}

@@ -2,7 +2,6 @@
 use mathlib.Core.Path.{sym, ap, ◌∙◌}
 use Prim.Native.Nat.{ℕ, ◌<◌}
 use native.Mathlib.Omega.{arith}
-use borrow.Author.Rules.{rules}
 use Rattle.ksets.specs.Sets.{set_at}
 use Rattle.document.proofs.Surveys.{range_none}
 use Rattle.survey.proofs.first_failing.Goals.{Else-start-end}

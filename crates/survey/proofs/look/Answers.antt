@@ -1,14 +1,14 @@
 -- `survey::look` meets its contract. The invariant: the set is that at the position, and the search from there on finds
 -- what the search from the start finds.
 use mathlib.Core.Path.{◌≡◌, refl, sym, ap, ◌∙◌}
-use Prim.Native.Nat.{ℕ, ◌+◌, ◌-◌, ◌≤◌, ◌<◌}
+use Prim.Native.Nat.{ℕ, ◌+◌, ◌<◌}
 use native.Mathlib.Omega.{arith}
 use lib.ListN.{length}
 use Rattle.ksets.specs.Sets.{sets, set_at}
 use Rattle.ksets.proofs.Ranked.{set_rising}
 use Rattle.document.specs.declared.Profile.{Profile}
 use Rattle.document.specs.Reading.{ambiguous}
-use Rattle.document.specs.Survey.{fails_at, first_in}
+use Rattle.document.specs.Survey.{fails_at}
 use Rattle.document.proofs.Surveys.{range_none, range_here, range_later}
 use Rattle.survey.proofs.look.Goals.{After-fails, In-loop-at, Start}
 use Rattle.survey.proofs.look.Goals as goal
@@ -73,13 +73,12 @@ pub loop-at-smaller : goal.loop-at-smaller
 loop-at-smaller c = omega (arith, c.loop-at-test.true)
 
 pub loop-at-preserved : goal.loop-at-preserved
-loop-at-preserved c =
-    (
-      omega (arith, c.loop-at-test.true),
-      c.go_on.auto.set ∙ size (goal.at.loop-at-preserved c).In-loop-at,
-      λ h. c.go_on.ensures h ∙ ap (λ (k : ℕ). set_at 0 (p (goal.at.loop-at-preserved c).In-loop-at).n k (at (goal.at.loop-at-preserved c).In-loop-at + 1)) (size (goal.at.loop-at-preserved c).In-loop-at),
-      c.loop-at.invariant.3 ∙ range_later _ _ _ c.loop-at-test.true (decided (goal.at.loop-at-preserved c).After-fails ∙ c.if-fails.false),
-    )
+loop-at-preserved c = (
+  omega (arith, c.loop-at-test.true),
+  c.go_on.auto.set ∙ size (goal.at.loop-at-preserved c).In-loop-at,
+  λ h. c.go_on.ensures h ∙ ap (λ (k : ℕ). set_at 0 (p (goal.at.loop-at-preserved c).In-loop-at).n k (at (goal.at.loop-at-preserved c).In-loop-at + 1)) (size (goal.at.loop-at-preserved c).In-loop-at),
+  c.loop-at.invariant.3 ∙ range_later _ _ _ c.loop-at-test.true (decided (goal.at.loop-at-preserved c).After-fails ∙ c.if-fails.false),
+)
 
 pub shape_of-set : goal.shape_of-set
 shape_of-set c = c.loop-at.invariant.1 ∙ sym c.requires.accepted.1

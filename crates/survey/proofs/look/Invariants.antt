@@ -1,15 +1,10 @@
 -- `survey::look` meets its contract. The invariant: the set is that at the position, and the search from there on finds
 -- what the search from the start finds.
-use mathlib.Core.Path.{◌≡◌, refl, sym, ap, ◌∙◌}
-use Prim.Native.Nat.{ℕ, ◌+◌, ◌-◌, ◌≤◌, ◌<◌}
-use native.Mathlib.Omega.{arith}
+use mathlib.Core.Path.{◌≡◌}
+use Prim.Native.Nat.{◌-◌, ◌≤◌, ◌<◌}
 use lib.ListN.{length}
-use Rattle.ksets.specs.Sets.{sets, set_at}
-use Rattle.ksets.proofs.Ranked.{set_rising}
-use Rattle.document.specs.declared.Profile.{Profile}
-use Rattle.document.specs.Reading.{ambiguous}
+use Rattle.ksets.specs.Sets.{set_at}
 use Rattle.document.specs.Survey.{fails_at, first_in}
-use Rattle.document.proofs.Surveys.{range_none, range_here, range_later}
 use Rattle.survey.proofs.look.Given as goal
 
 abbrev pub invariant-loop-at : goal.invariant-loop-at

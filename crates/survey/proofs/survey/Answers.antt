@@ -1,6 +1,5 @@
 -- `survey::survey` meets its contract: the head of a call.
 use mathlib.Core.Path.{sym, ◌∙◌}
-use borrow.Author.Rules.{rules}
 use Rattle.document.specs.Survey.{survey_of}
 use Rattle.document.proofs.Accepts.{accepted, rejected, passed}
 use Rattle.survey.proofs.survey.Goals as goal

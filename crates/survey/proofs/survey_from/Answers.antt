@@ -3,7 +3,6 @@ use mathlib.Core.Path.{◌≡◌, sym, ap, ◌∙◌}
 use mathlib.Core.List.{List, ◌++◌}
 use Prim.Native.Nat.{min, ℕ, ◌+◌, ◌-◌, ◌≤◌}
 use native.Mathlib.Omega.{arith}
-use borrow.Author.Rules.{rules}
 use lib.ListN.{length, drop, replicate, length-append, length-drop, length-replicate}
 use lib.Seq.{length-take-le}
 use Rattle.lists.proofs.Lent.{front_fits, front}
@@ -39,13 +38,12 @@ pub slice_bounds-first_failing-end : goal.slice_bounds-first_failing-end
 slice_bounds-first_failing-end c = sym (length-take-le _ _ (few (goal.at.slice_bounds-first_failing-end c).After-least-looked))
 
 pub first_failing-found-requires : goal.first_failing-found-requires
-first_failing-found-requires c =
-    (
-      c.requires.0,
-      sym (slice_bounds-first_failing-end c),
-      omega arith,
-      omega (arith, within (goal.at.first_failing-found-requires c).After-least-looked, c.requires.1),
-    )
+first_failing-found-requires c = (
+  c.requires.0,
+  sym (slice_bounds-first_failing-end c),
+  omega arith,
+  omega (arith, within (goal.at.first_failing-found-requires c).After-least-looked, c.requires.1),
+)
 
 -- the array once its front holds a set
 module _ (c : After-first_failing-found) where

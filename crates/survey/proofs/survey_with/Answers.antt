@@ -2,7 +2,6 @@
 use mathlib.Core.Path.{◌∙◌}
 use Prim.Native.Nat.{◌≤◌}
 use native.Mathlib.Omega.{arith}
-use borrow.Author.Rules.{rules}
 use Rattle.ksets.specs.Sets.{sets}
 use Rattle.survey.proofs.Answers.{start_refused, set_refused, answered}
 use Rattle.survey.proofs.survey_with.Goals.{Else-total-start, Start}

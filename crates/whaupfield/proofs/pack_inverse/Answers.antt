@@ -1,6 +1,5 @@
 -- `whaupfield::pack_inverse` meets its contract, case by case.
 use mathlib.Core.Path.{sym, ap}
-use borrow.Author.Rules.{rules}
 use Rattle.whaupfield.specs.Packed.{packed_inverse}
 use Rattle.whaupfield.proofs.pack_inverse.Goals as goal
 

@@ -2,7 +2,6 @@
 use mathlib.Core.Path.{sym, ap, ◌∙◌}
 use native.Mathlib.Nat.{add-zero, zero-add}
 use native.Mathlib.Omega.{arith}
-use borrow.Author.Rules.{rules}
 use Rattle.document.specs.Refusals.{answer_number}
 use Rattle.document.specs.Survey.{survey_answer, outcome_number, failing_position, looked_in}
 use Rattle.whaupfield.specs.Packed.{packed_survey}

@@ -1,6 +1,5 @@
 -- `whaupfield::whaupfield_inverse` meets its contract: the inverse or that there is none, packed.
 use mathlib.Core.Path.{ap, ◌∙◌}
-use borrow.Author.Rules.{rules}
 use Rattle.whaupfield.specs.Packed.{packed_inverse}
 use Rattle.whaupfield.proofs.whaupfield_inverse.Goals as goal
 

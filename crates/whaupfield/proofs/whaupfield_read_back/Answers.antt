@@ -2,7 +2,6 @@
 use mathlib.Core.Path.{ap, ◌∙◌}
 use Prim.Native.Nat.{ℕ}
 use native.Mathlib.Omega.{arith}
-use borrow.Author.Rules.{rules}
 use Rattle.document.proofs.Values.{read_value}
 use Rattle.whaupfield.specs.Packed.{packed_with}
 use Rattle.whaupfield.proofs.Values.{packable}

@@ -2,7 +2,6 @@
 use mathlib.Core.Path.{ap, ◌∙◌}
 use Prim.Native.Nat.{ℕ}
 use native.Mathlib.Omega.{arith}
-use borrow.Author.Rules.{rules}
 use native.Mathlib.Nat.{le_of_suc-le-suc}
 use Rattle.document.proofs.Values.{rebuild_value}
 use Rattle.whaupfield.specs.Packed.{packed_with}

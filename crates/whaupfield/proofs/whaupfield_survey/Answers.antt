@@ -2,7 +2,6 @@
 use mathlib.Core.Path.{ap, ◌∙◌}
 use mathlib.Core.List.{List}
 use Prim.Native.Nat.{ℕ}
-use borrow.Author.Rules.{rules}
 use Rattle.document.specs.declared.Surveyed.{Surveyed}
 use Rattle.whaupfield.specs.Packed.{packed_survey_with}
 use Rattle.whaupfield.proofs.Values.{survey_fits}

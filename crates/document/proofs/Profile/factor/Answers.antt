@@ -1,7 +1,6 @@
 -- `Profile::factor` meets its contract: each return is one case of the factor table.
 use mathlib.Core.Path.{◌∙◌}
 use native.Mathlib.Omega.{arith}
-use borrow.Author.Rules.{rules}
 use Rattle.document.proofs.Factors.{factor_none, factor_one, factor_constant}
 use Rattle.document.proofs.Profile.factor.Goals as goal
 

@@ -2,8 +2,6 @@
 use mathlib.Core.Path.{◌≡◌, sym, ◌∙◌}
 use mathlib.Core.Bool.{true}
 use native.Mathlib.Omega.{arith}
-use borrow.Author.Rules.{rules}
-use borrow.Author.Tests.{not-true, not-false}
 use Rattle.document.specs.Profile.{shape_accepted, edition_accepted}
 use Rattle.document.proofs.Decides.{decides_false}
 use Rattle.document.proofs.Accepts.{

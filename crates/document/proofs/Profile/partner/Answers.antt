@@ -1,6 +1,5 @@
 -- `Profile::partner` meets its contract: the group of a node lies within the nodes, which are few.
 use native.Mathlib.Omega.{arith}
-use borrow.Author.Rules.{rules}
 use Rattle.document.proofs.Bounds.{group_within}
 use Rattle.document.proofs.Profile.partner.Goals as goal
 

@@ -1,14 +1,9 @@
 -- `Refusal::index` meets its contract: a refusal that the code does not name comes with 0.
 use mathlib.Core.Path.{◌≡◌, refl, sym, ap}
-use mathlib.Core.List.{List, [], ◌∷◌}
 use Prim.Native.Nat.{ℕ}
-use denote.Enum.Declared.{tag_of}
-use types.Run.{OneOf, miss}
-use borrow.Author.Rules.{rules}
 use Rattle.document.specs.declared.Refusal.{Refusal}
 use Rattle.document.specs.declared.Refusal.TheVariants as refusals
 use Rattle.document.specs.Refusals.{index_of}
-use Rattle.document.specs.contracts.Refusal.{the_type}
 use Rattle.document.proofs.Refusal.index.Goals as goal
 
 pub returns-in-Misplaced : goal.returns-in-Misplaced

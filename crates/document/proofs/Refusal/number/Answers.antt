@@ -1,6 +1,5 @@
 -- `Refusal::number` meets its contract: each arm is a line of `number_of`.
 use mathlib.Core.Path.{sym, ap}
-use borrow.Author.Rules.{rules}
 use Rattle.document.specs.Refusals.{number_of}
 use Rattle.document.proofs.Refusal.number.Goals as goal
 

@@ -1,13 +1,10 @@
 -- `message::reader::all_opened` meets its contract. The invariant: the strips passed open as they must.
 use mathlib.Core.Path.{sym, ap, ◌∙◌}
-use Prim.Native.Nat.{◌-◌, ◌≤◌, zero-le}
+use Prim.Native.Nat.{zero-le}
 use native.Mathlib.Omega.{arith}
-use borrow.Author.Rules.{rules}
-use borrow.Author.Tests.{not-true, not-false}
 use Rattle.document.specs.Message.{opened}
-use Rattle.message.specs.Reader.{opened_in}
 use Rattle.message.proofs.Fit.{field_bounded, field_room}
-use Rattle.message.proofs.Found.{Below, below_none, below_next, all_true, all_false}
+use Rattle.message.proofs.Found.{below_none, below_next, all_true, all_false}
 use Rattle.message.proofs.reader.all_opened.Goals as goal
 
 pub loop-i-init : goal.loop-i-init

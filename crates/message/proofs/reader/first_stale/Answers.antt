@@ -1,13 +1,10 @@
 -- `message::reader::first_stale` meets its contract. The invariant: the strips passed are fresh.
 use mathlib.Core.Path.{sym, ap, ◌∙◌}
-use Prim.Native.Nat.{◌-◌, ◌≤◌, zero-le}
+use Prim.Native.Nat.{zero-le}
 use native.Mathlib.Omega.{arith}
-use borrow.Author.Rules.{rules}
-use borrow.Author.Tests.{not-true, not-false}
 use Rattle.document.specs.Message.{fresh}
-use Rattle.message.specs.Reader.{fresh_in}
 use Rattle.message.proofs.Fit.{field_bounded, field_room}
-use Rattle.message.proofs.Found.{Below, below_none, below_next, found, not_found}
+use Rattle.message.proofs.Found.{below_none, below_next, found, not_found}
 use Rattle.message.proofs.reader.first_stale.Goals as goal
 
 pub loop-i-init : goal.loop-i-init

@@ -1,8 +1,6 @@
 -- `message::reader::formed` meets its contract.
 use mathlib.Core.Path.{◌≡◌, sym, ◌∙◌}
 use native.Mathlib.Omega.{arith}
-use borrow.Author.Rules.{rules}
-use borrow.Author.Tests.{not-true, not-false}
 use lib.ListN.{length}
 use Rattle.document.specs.Message.{strip_field_start}
 use Rattle.message.specs.Reader.{FieldsFit}

@@ -1,6 +1,5 @@
 -- `message::reader::fresh` meets its contract.
 use mathlib.Core.Path.{◌∙◌}
-use borrow.Author.Rules.{rules}
 use Rattle.message.proofs.Compared.{fresh_is}
 use Rattle.message.proofs.reader.fresh.Goals as goal
 

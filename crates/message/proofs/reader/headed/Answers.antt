@@ -1,8 +1,6 @@
 -- `message::reader::headed` meets its contract.
 use mathlib.Core.Path.{sym, ◌∙◌}
 use native.Mathlib.Omega.{arith}
-use borrow.Author.Rules.{rules}
-use borrow.Author.Tests.{not-true, not-false}
 use Rattle.document.proofs.Message.{profile_short}
 use Rattle.message.proofs.Compared.{not_profile, headed_left}
 use Rattle.message.proofs.reader.headed.Goals as goal

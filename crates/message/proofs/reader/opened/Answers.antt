@@ -1,5 +1,4 @@
 -- `message::reader::opened` meets its contract.
-use borrow.Author.Rules.{rules}
 use Rattle.document.specs.Message.{opened}
 use Rattle.message.proofs.reader.opened.Goals as goal
 

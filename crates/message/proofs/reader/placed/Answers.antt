@@ -1,7 +1,6 @@
 -- `message::reader::placed` meets its contract: the node's byte, then the row's.
 use Prim.Native.Nat.{◌+◌}
 use native.Mathlib.Omega.{arith}
-use borrow.Author.Rules.{rules}
 use Rattle.message.proofs.Compared.{other_node, same_node}
 use Rattle.message.proofs.reader.placed.Goals as goal
 
