@@ -1,5 +1,5 @@
 -- `rebuild_node::main`: what the answer wrote lies within the output.
-use Rattle.std.proofs.Common.{◌≡◌, sym, length, take}
+use Rattle.std.proofs.Common.{sym}
 use Rattle.std.proofs.lemmas.List.{length-take-le}
 use Rattle.lists.proofs.Put.{wrote_fits}
 use Rattle.rebuild_node.proofs.main.Goals as goal
