@@ -5,14 +5,18 @@
 // the input ended there. A read that a signal interrupts is tried again.
 #![tactic(auto)]
 
+ghost use Rattle.std.specs.Prelude.{◌<◌, length, take, IfOk, IfSome, OnOk};
 ghost use Rattle.std.specs.Io.{ReadsAtMost};
+ghost use Rattle.std.specs.Io.KnownBytes.{Appends, Consumes, IsAtEnd, ReadConsumes};
+ghost use Rattle.document.specs.Program.{program_of};
 
 use std::io;
-use std::io::{ErrorKind, Read};
+use std::io::{ErrorKind, Read, Write};
 
 // One read, again where a signal interrupts it.
-fn read_some(input: &mut impl Read, buf: &mut [u8]) -> io::Result<usize>
-    ensures { ReadsAtMost result buf.new }
+fn read_some<R: Read>(input: &mut R, buf: &mut [u8]) -> io::Result<usize>
+    ensures bound { ReadsAtMost result buf.new }
+    ensures bytes { ReadConsumes (R.remaining input.old) (R.remaining input.new) result buf.new }
 {
     for _ in 0..u64::MAX {
         match input.read(buf) {
@@ -24,14 +28,16 @@ fn read_some(input: &mut impl Read, buf: &mut [u8]) -> io::Result<usize>
 }
 
 // Reads until `buf` is full or the input ends, and answers how many bytes it put at the start of `buf`.
-fn read_full(input: &mut impl Read, buf: &mut [u8]) -> io::Result<usize>
-    ensures { ReadsAtMost result buf.new }
+fn read_full<R: Read>(input: &mut R, buf: &mut [u8]) -> io::Result<usize>
+    ensures bound { ReadsAtMost result buf.new }
+    ensures bytes { IfOk result (λ n. Consumes (R.remaining input.old) (R.remaining input.new) (take n buf.new)) }
+    ensures end { IfOk result (λ n. n < length buf.new → IsAtEnd (R.remaining input.new)) }
 {
     let mut done = 0;
     while done < buf.len() {
         let n = read_some(input, &mut buf[done..])?;
         if n == 0 {
-            break;
+            return Ok(done);
         }
         done += n;
     }
@@ -56,12 +62,20 @@ fn skip_rest(input: &mut impl Read) -> io::Result<()> {
     Ok(())
 }
 
-fn main(rt: HostRuntime) -> io::Result<()> {
+// Writes what the program answers to the whole input, of whatever length. Said of any reader and writer whose bytes are
+// known: of the standard streams no contract says which bytes they give or take.
+fn answer_input<R: Read, W: Write>(from: &mut R, to: &mut W) -> io::Result<()>
+    ensures { OnOk result (IfSome (R.remaining from.old)
+        (λ xs. Appends (W.contents to.old) (W.contents to.new) (program_of xs))) }
+{
     let mut input = rebuild_answer::input_buffer();
     let mut output = [0u8; rebuild_answer::COLUMN];
-    let mut stdin = rt.stdin();
-    let got = read_full(&mut stdin, &mut input)?;
-    skip_rest(&mut stdin)?;
+    let got = read_full(from, &mut input)?;
+    skip_rest(from)?;
     let n = rebuild_answer::answer(&input[..got], &mut output);
-    rt.write_all(&output[..n])
+    to.write_all(&output[..n])
+}
+
+fn main(rt: HostRuntime) -> io::Result<()> {
+    answer_input(&mut rt.stdin(), &mut rt.stdout())
 }

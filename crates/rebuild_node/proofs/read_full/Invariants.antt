@@ -1,9 +1,12 @@
--- `rebuild_node::read_full`: what is read lies within the buffer.
-use Rattle.std.proofs.Common.{length, ◌-◌, ◌≤◌}
+-- `rebuild_node::read_full`: what was read so far is what was consumed, and stands at the front of the buffer.
+use Rattle.std.proofs.Common.{◌-◌, ◌≤◌, ◌≡◌, length, take}
+use Rattle.std.specs.Io.KnownBytes.{Consumes}
 use Rattle.rebuild_node.proofs.read_full.Given as goal
 
 abbrev pub invariant-loop-done : goal.invariant-loop-done
-invariant-loop-done g l = l.done ≤ length l.buf
+invariant-loop-done g l =
+    (length l.buf ≡ length l.initial.buf) × (l.done ≤ length l.buf)
+    × Consumes (g.R.Read.remaining l.initial.input) (g.R.Read.remaining l.input) (take l.done l.buf)
 
 abbrev pub decreases-loop-done : goal.decreases-loop-done
 decreases-loop-done g l = length l.initial.buf - l.done
