@@ -1,30 +1,12 @@
--- What reads consumed, where the reader's bytes are known.
+-- What reads consumed and what is answered to it, where the reader's bytes are known.
 use Rattle.std.proofs.Common.{◌≡◌, ℕ, ◌+◌, ◌≤◌, ◌<◌, List, ◌++◌, None, Some, IfSome, OnOk, Result, Ok, Err, drop, append_assoc, take-append-drop, length-take-le, arith, sym, ap, subst, ◌∙◌, append-nil, length, take, length-append, length-take}
 use native.Mathlib.Decide.{dec_lt}
-use Rattle.std.specs.Io.KnownBytes.{Keeps, Appends, Consumes, ReadConsumes, IsAtEnd}
+use Rattle.std.specs.Io.KnownBytes.{Appends, Consumes, IsAtEnd}
 use lib.Seq.{take_at}
 use Rattle.std.specs.declared.option.Option.{Option}
 use Rattle.document.specs.Program.{program_of}
 use Rattle.rebuild_answer.specs.Room.{longest_input}
 use Rattle.rebuild_answer.proofs.Longer.{longer_input}
-
-Keeps-Consumes : (a b c : Option (List ℕ)) (bs : List ℕ) → Keeps a b → Consumes b c bs → Consumes a c bs
-Keeps-Consumes None b c bs p q = tt
-Keeps-Consumes (Some x) None c bs p q = absurd p
-Keeps-Consumes (Some x) (Some y) None bs p q = absurd q
-Keeps-Consumes (Some x) (Some y) (Some z) bs p q = sym p ∙ q
-
-Keeps-twice : (a b c : Option (List ℕ)) → Keeps a b → Keeps b c → Keeps a c
-Keeps-twice None b c p q = tt
-Keeps-twice (Some x) None c p q = absurd p
-Keeps-twice (Some x) (Some y) None p q = absurd q
-Keeps-twice (Some x) (Some y) (Some z) p q = q ∙ p
-
--- a read after reads that consumed nothing
-pub Keeps-ReadConsumes : {E : Type 0} (a b c : Option (List ℕ)) (r : Result ℕ E) (buf : List ℕ)
-    → Keeps a b → ReadConsumes b c r buf → ReadConsumes a c r buf
-Keeps-ReadConsumes a b c (Ok n) buf p q = (Keeps-Consumes a b c (take n buf) p q.0, q.1)
-Keeps-ReadConsumes a b c (Err e) buf p q = Keeps-twice a b c p q
 
 -- the answer to what was read is the answer to the whole input
 pub answer_of_read : (a b : Option (List ℕ)) (buf : List ℕ) (n : ℕ) → length buf ≡ longest_input + 1 → n ≤ length buf

@@ -14,6 +14,6 @@ slice_bounds-write_all-end g c = sym (length-take-le _ _ (wrote_fits c.answer-n.
 pub returns : goal.returns
 returns g c =
     answer_written c.write_all.result _ _ _ _ _ (wrote_front c.answer-n.ensures).1
-    (answer_of_read _ _ c.read_full.new.buf c.in_ok-got.got (c.read_full.auto.buf ∙ ap length c.input_buffer-input.ensures) c.in_ok-got.ensures.bound.0 c.in_ok-got.ensures.bytes
-    c.in_ok-got.ensures.end)
+    (answer_of_read _ _ c.read_full.new.buf c.in_ok-got.got (c.read_full.auto.buf ∙ ap length c.input_buffer-input.ensures)
+    c.in_ok-got.ensures.bound.0 c.in_ok-got.ensures.bytes c.in_ok-got.ensures.end)
     c.write_all.ensures.bytes
