@@ -26,7 +26,7 @@ use Rattle.algebra.proofs.Pick.{pick_yes, pick_no}
 use Rattle.algebra.proofs.Sum.{sum_one, sum_zero}
 use Rattle.algebra.proofs.Polynomial.{apart}
 use Rattle.algebra.proofs.Weight.{weight_ne}
-use Rattle.algebra.proofs.RowCode.{chosen as chosen-points}
+use Rattle.algebra.proofs.RowCode.{chosen as chosen_points}
 use Rattle.algebra.proofs.Coupling.{partner_group, partner_partner}
 use Rattle.algebra.proofs.Rebuild.{row, rebuilt, same_partner, Fitting, column, fits}
 
@@ -134,7 +134,7 @@ module _ (K : Field) (C : Code K) (f : ℕ) (s : ℕ → ℕ) (f<n : f < C.n) (c
       weighs : w p ≢ 𝟘
       weighs =
           weight_ne K (λ q. point (s q)) p (point f) k
-          (apart K k (λ q. point (s q)) (chosen-points K n point distinct choice) p l) (λ q h m. off_lost q h)
+          (apart K k (λ q. point (s q)) (chosen_points K n point distinct choice) p l) (λ q h m. off_lost q h)
 
   -- A mark in the lost group shows in its row of the lost column.
   shows_own : (p : ℕ) → p < A → p ≢ c → lost_column (mark K c (partner_node A p f)) p ≢ 𝟘

@@ -1,7 +1,7 @@
 -- What a table of refusals says of a call that tries its tests in order: `call_of_lem`, once for all calls, over the list
 -- of its tests. Profile.antt has the case of a call that is given a profile's numbers.
 --
--- tried-stops, tried-through   : a call, whatever it answers: the first of its table is given; where no line holds, all
+-- tried_stops, tried_through   : a call, whatever it answers: the first of its table is given; where no line holds, all
 --                                its tests are tried in vain
 -- Unrefused table outcome done : what is known of a call where it is not refused
 -- CallOf tests table lines before outcome done : what is known of a call with these tests and this table that is lent

@@ -7,7 +7,7 @@ use Rattle.demands.proofs.Rebuild.{
   same_strips,
   same_answer,
   cut_passes,
-  same_column_lem,
+  same_column,
   same_bundle,
   cut_column,
   cut_rebuilds,
@@ -31,7 +31,7 @@ demand_3 = record {
   rebuild = demand_3_rebuild;
   same_strips = same_strips;
   same_bundle = same_bundle;
-  same_column_lem = same_column_lem;
+  same_column = same_column;
   cut_for_wanted = cut_for_wanted;
   other_edition = other_edition;
   editions_aside = editions_aside;

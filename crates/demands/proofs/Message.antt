@@ -1,7 +1,7 @@
 -- A message to read: where its fields stand, in the documents' numbers, and what a reader's tests decide.
 --
 -- AsWanted p content r qs b : the message b is as wanted: what holds of it exactly where no line of `message_sentences`
---                             does (wanted-none, refuted-wanted)
+--                             does (wanted_none, refuted_wanted)
 use mathlib.Core.Path.{◌≡◌, refl, sym, ap, ap₂, ◌∙◌}
 use mathlib.Core.Bool.{Bool, true, false, cond}
 use mathlib.Core.List.{List, [], ◌∷◌, ◌++◌}
@@ -77,7 +77,7 @@ use Rattle.demands.proofs.Tables.{
   Holds,
   by_name,
   NoneHolds,
-  line-by-line,
+  line_by_line,
   decided_listed,
   decided_then,
   map_listed,
@@ -295,7 +295,7 @@ module _ (p : Profile) (content : List ℕ) (r : Recording) (qs : List Place) (b
       λ i l. sym (place_is p m b i) ∙ w.is_placed i l in
       let of_recording : (i : ℕ) → i < P → OfRecording r b (field_start p m i) =
       λ i l. numbers_read p m b i r (w.is_fresh i l) in
-      search line-by-line depth 20
+      search line_by_line depth 20
 
   module _ (acc : Accepted p)
       (refuted : (q : Refusal) → Holds (message_sentences p (length content) content r qs b) q → ⊥) where

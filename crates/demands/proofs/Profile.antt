@@ -1,9 +1,9 @@
 -- What a table says of a call that is given a profile's numbers, and then tries tests of its own over an accepted
 -- profile: `call_for`, the case of `call_of_lem` whose table begins with the lines of a profile.
 --
--- accepted-none                : no line of an accepted profile holds
--- past-profile                 : where no line holds, the profile is accepted, and no line of the call's own holds
--- profile-decided              : a profile's tests decide their lines before tests that do so for an accepted profile
+-- accepted_none                : no line of an accepted profile holds
+-- past_profile                 : where no line holds, the profile is accepted, and no line of the call's own holds
+-- profile_decided              : a profile's tests decide their lines before tests that do so for an accepted profile
 -- Granted p table outcome done : what is known of a call with the numbers p where it is not refused
 -- CallFor p tests table lines before outcome done : what is known of a call with the numbers p; its tests, its table
 --                                and its lines are those past the profile's
@@ -42,7 +42,7 @@ use Rattle.demands.proofs.Tables.{
   held,
   only_append,
   only_split,
-  line-by-line,
+  line_by_line,
   NoneHolds,
   unheld,
   first_past,
@@ -80,7 +80,7 @@ module _ (p : Numbers) where
       let strip : (p.s ≡ 0) ⊎ (512 < p.s) → ⊥ = λ m. inside p.s m (acc.some_bytes, acc.short) in
       let edition : (p.edition ≢ 1) × (p.edition ≢ 2) → ⊥ =
       λ h. either p.edition h (acc.first_edition, acc.last_edition) in
-      search line-by-line
+      search line_by_line
 
   -- the tests of a profile decide them
   profile_lines_lem : Decided (profile_tests p) (profile_sentences p)

@@ -18,7 +18,7 @@ use Rattle.demands.specs.Message.{strip_sentences, message_sentences}
 use Rattle.demands.specs.Bundle.{bundle_sentences}
 use Rattle.demands.specs.Rebuild.{rebuild_sentences}
 use Rattle.demands.specs.Program.{numbers, lent, table, Demand1Program}
-use Rattle.demands.proofs.Tables.{first_holds, Only, held, line-by-line}
+use Rattle.demands.proofs.Tables.{first_holds, Only, held, line_by_line}
 use Rattle.demands.proofs.Rebuild.{demand_1_rebuild}
 
 -- ---- the output, by the answer
@@ -42,14 +42,14 @@ others_alone : (input : List ℕ) → Only (Other 5) (table input)
 unfolding rebuild_sentences profile_sentences bundle_sentences message_sentences strip_sentences number_of
 others_alone input =
     let size : length (lent input) ≡ (numbers input).a * (numbers input).s = length-replicate _ 0 in
-    search (line-by-line, tt) depth 20
+    search (line_by_line, tt) depth 20
 
 -- the edition is 1; no other line has the number 13
 no_thirteen : (input : List ℕ) → Only (Other 13) (table input)
 unfolding rebuild_sentences profile_sentences bundle_sentences message_sentences strip_sentences number_of wanted_numbers
 no_thirteen input =
     let first : ((numbers input).edition ≢ 1) × ((numbers input).edition ≢ 2) → ⊥ = λ h. h.0 refl in
-    search (line-by-line, tt) depth 20
+    search (line_by_line, tt) depth 20
 
 pub demand_1_program : Demand1Program
 unfolding program_of number_of wanted_numbers

@@ -23,7 +23,7 @@ use Rattle.document.proofs.Reading.{TwoEncoded, read_data, read_columns, read_on
 use Rattle.demands.specs.Tables.{Decided, none, line}
 use Rattle.demands.specs.Reading.{TwoData, read_sentences, Demand1Read, InDueForm, OnlyData, Demand2Reading}
 use Rattle.demands.proofs.Encoding.{encoded_is, encoded_only}
-use Rattle.demands.proofs.Tables.{by_name, in_order, line-by-line}
+use Rattle.demands.proofs.Tables.{by_name, in_order, line_by_line}
 use Rattle.demands.proofs.Profile.{Granted, CallFor, call_for, call_answer}
 
 -- ---- the sentence of 10, and the same of encoded arrays
@@ -101,7 +101,7 @@ module _ (p : Numbers) (nodes x y : List ℕ) where
 
     else_done : (TwoData (profile_of p) nodes → ⊥) → read_of p nodes x y ≡ (Done 0, data_from (profile_of p) nodes x)
     unfolding read_sentences
-    else_done other = read_call.through form.profile (search line-by-line)
+    else_done other = read_call.through form.profile (search line_by_line)
 
     -- 'refused exactly when some two different data sets give equal columns on those drives', and answered otherwise
     pub read_refused : (answer_number (read_of p nodes x y).0 ≡ 10) ↔ TwoData (profile_of p) nodes

@@ -49,7 +49,7 @@ use Rattle.demands.specs.Rebuild.{
   OtherEdition,
   WholeBundle,
 }
-use Rattle.demands.proofs.Tables.{by_name, in_order, NoneHolds, line-by-line}
+use Rattle.demands.proofs.Tables.{by_name, in_order, NoneHolds, line_by_line}
 use Rattle.demands.proofs.Profile.{Granted, CallFor, call_for, call_answer}
 use Rattle.demands.proofs.Strips.{same_rebuilt, column_of_lem, bundle_gives, some_fits}
 use Rattle.demands.proofs.Message.{
@@ -209,7 +209,7 @@ module _ (p : Numbers) (f : ℕ) where
       let read : NoneHolds (bundle_sentences wanted node r b) =
       wanted_none wanted (lost_content node r) r (planned wanted node) b (cut_wanted p f x r b cut) in
       ap (λ (o : Answer × List ℕ). answer_number o.0)
-      ((rebuild_call p f r b y).through (cut_accepted p f x r b cut) (search line-by-line))
+      ((rebuild_call p f r b y).through (cut_accepted p f x r b cut) (search line_by_line))
 
   pub same_bundle : SameBundle p f
   same_bundle x₁ x₂ alike r b₁ b₂ cut₁ cut₂ =
@@ -259,8 +259,8 @@ module _ (p : Numbers) (f : ℕ) where
       let same = cut_for_wanted numbers lost x recording r b y cut e in
       cut_strips p f x recording b (rw (same.0, same.1) at cut)
 
-  pub same_column_lem : SameColumn p f
-  same_column_lem x₁ x₂ alike numbers₁ numbers₂ node₁ node₂ recording₁ recording₂ b₁ b₂ cut₁ cut₂ r₁ r₂ y₁ y₂ e₁ e₂ =
+  pub same_column : SameColumn p f
+  same_column x₁ x₂ alike numbers₁ numbers₂ node₁ node₂ recording₁ recording₂ b₁ b₂ cut₁ cut₂ r₁ r₂ y₁ y₂ e₁ e₂ =
       same_strips r₁ r₂ b₁ b₂ y₁ y₂ e₁ e₂
       (λ i l. sym (strips_of numbers₁ node₁ x₁ recording₁ r₁ b₁ y₁ cut₁ e₁ i l) ∙ alike i l
       ∙ strips_of numbers₂ node₂ x₂ recording₂ r₂ b₂ y₂ cut₂ e₂ i l)

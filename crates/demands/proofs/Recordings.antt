@@ -46,7 +46,7 @@ use Rattle.demands.specs.Recordings.{
   OldForm,
   OldRefused,
 }
-use Rattle.demands.proofs.Tables.{in_order, NoneHolds, first_listed, first_past, only_listed, line-by-line}
+use Rattle.demands.proofs.Tables.{in_order, NoneHolds, first_listed, first_past, only_listed, line_by_line}
 use Rattle.demands.proofs.Message.{
   content_number,
   second_number,
@@ -197,21 +197,21 @@ module _ (p : Numbers) (f : ℕ) where
     -- a strip that reads as one of w is of w
     one_strip : (w : Recording) → InSixBytes w → (i : ℕ) → i < P → InSixBytes (recording_of i) → OfRecording w b (at i)
         → recording_of i ≡ w
-    one_strip w fits i l fits-too o =
-        same_recording (recording_of i) w fits-too fits
+    one_strip w fits i l fits_too o =
+        same_recording (recording_of i) w fits_too fits
         (sym (recording_read wanted 7 b i (recording_of i) (recorded i l)) ∙ recording_read wanted 7 b i w o)
 
     -- the first strip of another recording
     module _ (y : List ℕ) (size : length y ≡ p.a * p.s) (i : ℕ) (l : i < P)
         (before : (e : ℕ) → e < i → recording_of e ≡ r) (other : recording_of i ≢ r) (fits : InSixBytes r)
-        (fits-too : InSixBytes (recording_of i)) where
+        (fits_too : InSixBytes (recording_of i)) where
       stale_strip : FirstOf (strip_sentences wanted 7 r plan b) (Stale i)
       unfolding strip_sentences
       stale_strip =
           first_past (only_listed P _ (λ e m n. n (placed e m)))
           (first_listed P _ i l
           (λ e m n. n (subst (λ q. OfRecording q b (at e)) (before e m) (recorded e (omega arith))))
-          (λ o. other (one_strip r fits i l fits-too o)))
+          (λ o. other (one_strip r fits i l fits_too o)))
 
       stale_first : FirstOf (rebuild_sentences wanted node r b y) (Stale i)
       unfolding rebuild_sentences bundle_sentences message_sentences lost_content recording_bytes
@@ -235,7 +235,7 @@ module _ (p : Numbers) (f : ℕ) where
           let read : NoneHolds (bundle_sentences wanted node r b) =
           wanted_none wanted (lost_content node r) r plan b together in
           ap (λ (o : Answer × List ℕ). answer_number o.0)
-          ((rebuild_call p f r b y).through accepted (search (line-by-line, below, size)))
+          ((rebuild_call p f r b y).through accepted (search (line_by_line, below, size)))
 
     -- a rebuild for w that is not refused
     module _ (w : Recording) (y : List ℕ) (e : NotRefused p f w b y) (fits : InSixBytes w) where
@@ -244,12 +244,12 @@ module _ (p : Numbers) (f : ℕ) where
 
       of_head : InSixBytes r → r ≡ w
       unfolding lost_content recording_bytes four_bytes two_bytes
-      of_head fits-too =
-          same_recording r w fits-too fits (ap (drop 1) (sym headed.field_02 ∙ passed.is_headed.field_02))
+      of_head fits_too =
+          same_recording r w fits_too fits (ap (drop 1) (sym headed.field_02 ∙ passed.is_headed.field_02))
 
       of_strip : (i : ℕ) → i < P → InSixBytes (recording_of i) → recording_of i ≡ w
       unfolding lost_content recording_bytes four_bytes two_bytes
-      of_strip i l fits-too = one_strip w fits i l fits-too (numbers_read wanted 7 b i w (passed.is_fresh i l))
+      of_strip i l fits_too = one_strip w fits i l fits_too (numbers_read wanted 7 b i w (passed.is_fresh i l))
 
   pub one_recording : OneRecording p f
   one_recording r w recording_of b y made e fits fits_head fits-strip = (
@@ -258,9 +258,9 @@ module _ (p : Numbers) (f : ℕ) where
   )
 
   pub mixed_refused : MixedRefused p f
-  mixed_refused r recording_of b y made size i l before other fits fits-too =
+  mixed_refused r recording_of b y made size i l before other fits fits_too =
       (rebuild_call p f r b y).stops (accepted r recording_of b made)
-      (stale_first r recording_of b made y size i l before other fits fits-too)
+      (stale_first r recording_of b made y size i l before other fits fits_too)
 
   pub together_passes : TogetherPasses p f
   together_passes r recording_of b y made size one = passes r recording_of b made one y size

@@ -45,7 +45,7 @@ use Rattle.demands.specs.Survey.{
   SurveysJoin,
   SurveyDemands,
 }
-use Rattle.demands.proofs.Tables.{Holds, by_name, held, line-by-line, only_append, FirstOrNone, first_or_none}
+use Rattle.demands.proofs.Tables.{Holds, by_name, held, line_by_line, only_append, FirstOrNone, first_or_none}
 use Rattle.demands.proofs.Calls.{tried_stops, tried_through}
 use Rattle.demands.proofs.Profile.{accepted_none, past_profile, profile_decided, call_for}
 use Rattle.demands.proofs.Reading.{read_refused, read_answered}
@@ -117,7 +117,7 @@ module _ (p : Numbers) (start : ℕ) (x : List ℕ) where
   allowed_result most A =
       let below : sets p.n p.k < start → ⊥ = λ m. omega (arith, A.within) in
       survey_tried most
-      ∙ tried_through _ _ tests_decided (only_append (accepted_none p A.profile) (search line-by-line))
+      ∙ tried_through _ _ tests_decided (only_append (accepted_none p A.profile) (search line_by_line))
 
   refused_or_allowed : AlwaysRefused p start x ⊎ Allowed p start x
   unfolding survey_sentences

@@ -3,9 +3,9 @@
 -- Holds table r   : some line of the refusal r holds. `search by_name` finds it, wherever it stands, where what it says
 --                   is at hand
 -- FirstOf table r : `search in_order` shows it, where what r says is at hand and what refutes the lines before it
--- Only Q table    : the lines that hold are of refusals as Q says. `search line-by-line` goes over them, where what is
+-- Only Q table    : the lines that hold are of refusals as Q says. `search line_by_line` goes over them, where what is
 --                   needed of each is at hand
--- NoneHolds table : no line holds, as `Only` says it. `search line-by-line` shows this too; none-holds and none-applies
+-- NoneHolds table : no line holds, as `Only` says it. `search line_by_line` shows this too; none_holds and none_applies
 --                   lead from and to NoneApplies, as the demands say it
 -- first_or_none   : some refusal is the first of a table that tests decide, or no line holds
 use mathlib.Core.Path.{◌≡◌, refl, ap}
@@ -76,7 +76,7 @@ module _ {Q : Refusal → Type 0} where
   only_listed (suc n) s f =
       and_line (f 0 (zero-lt-suc n)) (only_listed n (λ i. s (suc i)) (λ i l. f (suc i) (suc-le-suc l)))
 
-pub ruleset line-by-line = (no_line_lem, and_line, only_append, only_listed)
+pub ruleset line_by_line = (no_line_lem, and_line, only_append, only_listed)
 
 abbrev pub NoneHolds : List Sentence → Type 1
 NoneHolds table = Only (λ r. ⊥) table

@@ -2,10 +2,10 @@
 --
 -- Shown in proofs/Bundle.antt, under the name beside each:
 -- write_sentences p f x b  : the lines for cutting a bundle from the array x, written into b, past those of a profile
--- Demand1Write p f r x b  : writing a bundle refuses as they say                                    demand-1-write
+-- Demand1Write p f r x b  : writing a bundle refuses as they say                                    demand_1_write
 -- WrittenBundle p f r x b : what cutting a bundle from x, written into b, leaves and answers
--- Demand3Write            : writing a bundle that is not refused                                    demand-3-write
--- StripsAt                : where a bundle's strips stand in it                                    strips-at
+-- Demand3Write            : writing a bundle that is not refused                                    demand_3_write
+-- StripsAt                : where a bundle's strips stand in it                                    strips_at
 -- CutFrom p f x r b       : b is a bundle cut from the stored array x
 --
 -- bundle_sentences p f r b : the lines for a bundle to read, where the profile p, the lost node f and the recording r

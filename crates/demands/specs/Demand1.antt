@@ -3,7 +3,7 @@
 -- the order they are tried (by number, save where a request says otherwise), and it changes no byte that was lent.'
 --
 -- Demand1 : demand 1 for the six calls, for looking at a profile's numbers and for the small program, for all numbers
---           and bytes. Shown in proofs/Demand1.antt: demand-1
+--           and bytes. Shown in proofs/Demand1.antt: demand_1
 --
 -- What it says of any call is in Tables.antt and Profile.antt, each call's table in the file of that call. The small
 -- program answers by the table of a rebuild: Program.antt.

@@ -1,4 +1,4 @@
--- Demand 2, whole: each sentence and the statement that says it. Shown in proofs/Demand2.antt: demand-2.
+-- Demand 2, whole: each sentence and the statement that says it. Shown in proofs/Demand2.antt: demand_2.
 --
 -- Demand2 : demand 2
 use Rattle.demands.specs.Encoding.{OneArray, ArrayIsEncoded, Demand2Encode}

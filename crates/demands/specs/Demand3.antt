@@ -1,5 +1,5 @@
 -- Demand 3, whole: each clause and the statement that says it, and then what else is shown of bundles. Shown in
--- proofs/Demand3.antt: demand-3.
+-- proofs/Demand3.antt: demand_3.
 --
 -- Demand3 : demand 3
 use Rattle.std.specs.Prelude.{ℕ}
@@ -44,7 +44,7 @@ pub record Demand3 : Type 0 where
   pub same_bundle : (p : Numbers) (f : ℕ) → SameBundle p f
   -- 'Take any two stored arrays alike at the planned places, ..: rebuilds from bundles cut from them, where not
   -- refused, write the same column, ..'
-  pub same_column_lem : (p : Numbers) (f : ℕ) → SameColumn p f
+  pub same_column : (p : Numbers) (f : ℕ) → SameColumn p f
   -- 'Any two rebuilds given equal bundles, the same wanted numbers and buffers of equal length give the same answer'
   pub same_answer : (p : Numbers) (f : ℕ) → SameAnswer p f
   -- beyond the demand, what a bundle is, written and read

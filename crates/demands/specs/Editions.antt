@@ -4,9 +4,9 @@
 --
 -- in_edition p e         : the numbers p with the edition e
 -- EditionAside p e      : encoding, reading back, surveys and encoded arrays are the same with p and in edition e
--- EditionsAside         : so it is where both are accepted                                          editions-aside
+-- EditionsAside         : so it is where both are accepted                                          editions_aside
 -- EitherEdition p e f x : bundles cut from x in the two editions give the same column of node f
--- EitherRebuilds        : so it is for every encoded array x                                        either-rebuilds
+-- EitherRebuilds        : so it is for every encoded array x                                        either_rebuilds
 -- Shown in proofs/Editions.antt, under the name beside each.
 use Rattle.std.specs.Prelude.{◌≡◌, ◌↔◌, List, ℕ}
 use Rattle.document.specs.declared.Numbers.{Numbers}

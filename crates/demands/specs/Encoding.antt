@@ -1,11 +1,11 @@
 -- Encoding: when it is refused, and demand 2, first sentence: 'Encoding writes the array that document 01 defines.'
 --
 -- encode_sentences p d x : the lines for encoding the data d into x, past those of a profile
--- Demand1Encode p d x   : encoding refuses as they say                                              demand-1-encode
+-- Demand1Encode p d x   : encoding refuses as they say                                              demand_1_encode
 -- DocumentArray p d x   : x is the array that document 01 defines for the data d, in the profile p
--- OneArray              : it is the only one                                                        one-array
--- ArrayIsEncoded        : it is `encoded p d` of document/specs/Encoding.antt, which computes        array-is-encoded
--- Demand2Encode         : encoding that is not refused writes it                                    demand-2-encode
+-- OneArray              : it is the only one                                                        one_array
+-- ArrayIsEncoded        : it is `encoded p d` of document/specs/Encoding.antt, which computes        array_is_encoded
+-- Demand2Encode         : encoding that is not refused writes it                                    demand_2_encode
 -- Shown in proofs/Encoding.antt, under the name beside each.
 --
 -- In DocumentArray b is a byte offset of a strip, i a row, j a node, j % A its local column l. The words it uses:

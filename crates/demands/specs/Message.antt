@@ -11,7 +11,7 @@
 -- OfRecording r b at                  : its scenario and its run are those of the recording r
 -- strip_sentences p m r qs b           : the lines for the strips of a message to read
 -- message_sentences p m content r qs b : the lines for a message to read. A reader's tests decide them, where m is the
---                                       length of the content: proofs/Message.antt, message-decided
+--                                       length of the content: proofs/Message.antt, message_decided
 use Rattle.std.specs.Prelude.{◌≡◌, ◌≢◌, List, [], ◌∷◌, ◌++◌, cond, ℕ, ◌+◌, ◌*◌, ◌<◌, eqb, length, get_or}
 use Rattle.lists.specs.Listed.{listed}
 use Rattle.lists.specs.Put.{slice}

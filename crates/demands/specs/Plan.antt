@@ -3,17 +3,17 @@
 -- Their number is the one the plan, where not refused, answers with, and it equals the formula there.'
 --
 -- plan_sentences p f x  : the lines for planning the rebuild of node f into x, past those of a profile
--- Demand1Plan p f x    : planning refuses as they say                                              demand-1-plan
+-- Demand1Plan p f x    : planning refuses as they say                                              demand_1_plan
 -- PlannedPlaces p f qs : the places qs are distinct places of the array, none on f, and their number is the formula's
--- Demand3Places        : so they are over any walk that goes over each candidate once              demand-3-places
--- Demand3Walk          : each edition's walk is one such, and `planned` is the plan over it        demand-3-walk
+-- Demand3Places        : so they are over any walk that goes over each candidate once              demand_3_places
+-- Demand3Walk          : each edition's walk is one such, and `planned` is the plan over it        demand_3_walk
 -- distance_after n f j  : how far node j is from the node after f, rising and wrapping past n-1 to 0
 -- WalkRises p f w      : step 1 of the walk w rises, and so do steps 2 and 3 in edition 1; in edition 2 they rise in
 --                        this distance
--- Demand3Order         : each edition's walk does                                                  demand-3-order
--- OneWalk              : a complete walk that does gives the plan: there is no other               one-walk
+-- Demand3Order         : each edition's walk does                                                  demand_3_order
+-- OneWalk              : a complete walk that does gives the plan: there is no other               one_walk
 -- NamedPlaces p f x    : what planning the rebuild of node f into x leaves and answers
--- Demand3Plan          : where planning is not refused, it names the planned places                demand-3-plan
+-- Demand3Plan          : where planning is not refused, it names the planned places                demand_3_plan
 -- Shown in proofs/Plan.antt, under the name beside each.
 --
 -- `plan_over` in document/specs/Plan.antt is the list of the steps, over a walk: the nodes that each step goes over.

@@ -2,9 +2,9 @@
 --
 -- profile_sentences p : the lines for a profile's numbers
 -- profile_lines       : the numbers of these lines
--- Demand1Profile p   : the outcome of looking at the numbers p alone. Shown in proofs/Profile.antt: demand-1-profile
+-- Demand1Profile p   : the outcome of looking at the numbers p alone. Shown in proofs/Profile.antt: demand_1_profile
 -- Demand1For p tests table lines before outcome : a call that is given the numbers p refuses by these lines, and then
---                      by its own, for an accepted profile. Shown of every such call in proofs/Profile.antt: call-for
+--                      by its own, for an accepted profile. Shown of every such call in proofs/Profile.antt: call_for
 use Rattle.std.specs.Prelude.{◌≡◌, ◌≢◌, ◌⊎◌, List, [], ◌∷◌, ◌++◌, ℕ, ◌≤◌, ◌<◌}
 use Rattle.document.specs.declared.Numbers.{Numbers}
 use Rattle.document.specs.declared.Profile.{Profile}

@@ -11,7 +11,7 @@
 -- ProgramWrites input : the column where the rebuild is not refused, otherwise the line of its first refusal; never 5
 --                       nor 13
 -- Demand1Program      : so it is for all inputs
--- Shown in proofs/Program.antt: demand-1-program.
+-- Shown in proofs/Program.antt: demand_1_program.
 use Rattle.std.specs.Prelude.{◌≡◌, List, ◌++◌, ℕ, ◌*◌, drop, replicate}
 use Rattle.document.specs.declared.Numbers.{Numbers}
 use Rattle.document.specs.declared.Recording.{Recording}

@@ -5,11 +5,11 @@
 -- TwoData p nodes           : some two different data give equal columns on the named nodes
 -- read_sentences p nodes x y : the lines for reading the columns x of the named nodes back into y, past those of a
 --                             profile
--- Demand1Read p nodes x y   : reading back refuses as they say                                      demand-1-read
+-- Demand1Read p nodes x y   : reading back refuses as they say                                      demand_1_read
 -- InDueForm p nodes x y     : the request is in due form: profile, list and lengths
 -- OnlyData p nodes x d      : d are data whose array has the columns x on the named nodes, and no other data have them
 -- ReadsOnlyData p nodes x y : what demand 2 says of one call, for the columns x and the buffer y
--- Demand2Reading            : for all numbers, lists and bytes                                      demand-2-reading
+-- Demand2Reading            : for all numbers, lists and bytes                                      demand_2_reading
 -- Shown in proofs/Reading.antt, under the name beside each.
 --
 -- The words it uses, from Encoding.antt, from document/specs (Encoding.antt and Reading.antt) and from

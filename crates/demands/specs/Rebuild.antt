@@ -2,23 +2,23 @@
 -- on that drive. No byte elsewhere, old or new, changes the rebuild. ..'
 --
 -- rebuild_sentences p f r b y : the lines for rebuilding node f from the bundle b into y, past those of a profile
--- Demand1Rebuild p f r b y   : a rebuild refuses as they say                                        demand-1-rebuild
+-- Demand1Rebuild p f r b y   : a rebuild refuses as they say                                        demand_1_rebuild
 -- NotRefused p f r b y       : a rebuild of node f from the bundle b, into y, is not refused
 -- InSixBytes r               : four bytes hold the scenario of the recording r, and two its run
 -- RebuiltColumn p f r b y    : some encoded array has the strips of b; the rebuilt column is that of each such array
 --
 -- The statements of demand 3; Demand3.antt puts them together:
--- Demand3Rebuild             : a rebuild that is not refused                                        demand-3-rebuild
--- SameStrips                 : bundles with equal strips give equal columns                         same-strips
--- SameColumn                 : so do bundles cut from arrays alike at the planned places            same-column
--- SameBundle                 : for one recording, such arrays give one bundle                       same-bundle
--- SameAnswer                 : equal bundles, wanted numbers and lengths give the same answer       same-answer
--- CutPasses                  : a bundle cut for what is wanted is not refused                      cut-passes
--- CutColumn                  : the column rebuilt from a bundle cut from any stored array           cut-column
--- CutRebuilds                : from an encoded array, the rebuild gives the lost column back        cut-rebuilds
--- CutForWanted               : a bundle cut for another profile, node or recording is refused       cut-for-wanted
--- OtherEdition               : one cut in another edition is refused with 6                         other-edition
--- WholeBundle                : what is not refused is what is cut from any array with its strips    whole-bundle
+-- Demand3Rebuild             : a rebuild that is not refused                                        demand_3_rebuild
+-- SameStrips                 : bundles with equal strips give equal columns                         same_strips
+-- SameColumn                 : so do bundles cut from arrays alike at the planned places            same_column
+-- SameBundle                 : for one recording, such arrays give one bundle                       same_bundle
+-- SameAnswer                 : equal bundles, wanted numbers and lengths give the same answer       same_answer
+-- CutPasses                  : a bundle cut for what is wanted is not refused                      cut_passes
+-- CutColumn                  : the column rebuilt from a bundle cut from any stored array           cut_column
+-- CutRebuilds                : from an encoded array, the rebuild gives the lost column back        cut_rebuilds
+-- CutForWanted               : a bundle cut for another profile, node or recording is refused       cut_for_wanted
+-- OtherEdition               : one cut in another edition is refused with 6                         other_edition
+-- WholeBundle                : what is not refused is what is cut from any array with its strips    whole_bundle
 -- Shown in proofs/Rebuild.antt, under the name beside each.
 --
 -- In all of them p are the wanted numbers, f is the wanted node, r the wanted recording, b a bundle, y what the buffer

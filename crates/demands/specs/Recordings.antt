@@ -5,13 +5,13 @@
 --                               field 03 of strip i of a bundle cut for `recording_of i`; all are cut for the wanted
 --                               numbers and node
 -- OneRecording                : such a bundle is not refused only if all of it is of the wanted recording
---                                                                                                   one-recording
+--                                                                                                   one_recording
 -- MixedRefused                : with the wanted head it is refused with 9 at the first strip of another recording
---                                                                                                   mixed-refused
--- TogetherPasses              : it is not refused where all strips are of the wanted recording      together-passes
+--                                                                                                   mixed_refused
+-- TogetherPasses              : it is not refused where all strips are of the wanted recording      together_passes
 -- OldForm b                   : field 02 of b opens as document 01 has it, or b has the length that document 01 gives a
 --                               bundle for what is wanted
--- OldRefused                  : past 1 to 5 and 13 it is refused with 6                             old-refused
+-- OldRefused                  : past 1 to 5 and 13 it is refused with 6                             old_refused
 -- Shown in proofs/Recordings.antt, under the name beside each.
 --
 -- In all of them p are the wanted numbers, f is the wanted node, r or w a recording, b a bundle, y what the buffer lent

@@ -7,7 +7,7 @@
 -- FitsOver p f w      : any bytes at the planned places stand in some encoded array, over the walk w
 -- OneColumnOver p f w : encoded arrays alike at the planned places have the same lost column, over the walk w
 -- Fits                : the first, for every accepted profile, dead drive and complete walk        fits
--- OneColumn           : the second                                                                 one-column
+-- OneColumn           : the second                                                                 one_column
 -- Shown in proofs/Strips.antt, under the name beside each.
 --
 -- plan_over A k f w are the planned places over the walk w: document/specs/Plan.antt. In an array x strip_of p x q is the

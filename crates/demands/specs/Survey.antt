@@ -2,7 +2,7 @@
 -- readings.
 --
 -- survey_sentences p start x      : the lines for a survey from a position on, into x, past those of a profile
--- Demand1Survey p start most x   : a survey refuses as they say. Shown in proofs/Survey.antt: demand-1-survey
+-- Demand1Survey p start most x   : a survey refuses as they say. Shown in proofs/Survey.antt: demand_1_survey
 -- Fails p pos                    : the set at a position fails
 -- NoneFails p from to            : no set from the position `from` on and before `to` fails
 -- Tells p start most x outcome   : what the outcome of a survey says, by its three cases
@@ -14,7 +14,7 @@
 --                                  lexicographic order
 -- DoneReadsAll                   : 'done' from start 0 means that every set of k nodes can be read
 -- SurveysJoin                    : surveys of adjoining ranges join into one
--- SurveyDemands                  : these, from SurveyTells on. Shown in proofs/Survey.antt: survey-demands
+-- SurveyDemands                  : these, from SurveyTells on. Shown in proofs/Survey.antt: survey_demands
 --
 -- The words it uses:
 -- set_at 0 n k pos       : the set at a position, as a list of its nodes

@@ -17,7 +17,7 @@
 -- A call has two tables. The sentences here are the one to be believed; the tests in document/specs compute, and are
 -- shown to decide the sentences.
 --
--- Shown of every call that tries its tests in order in proofs/Calls.antt: call-of. Profile.antt has the case of a call
+-- Shown of every call that tries its tests in order in proofs/Calls.antt: call_of_lem. Profile.antt has the case of a call
 -- that is given a profile's numbers; each call's table, and demand 1 for it, are in the file of that call.
 use Rattle.std.specs.Prelude.{◌≡◌, ◌↔◌, List, [], ◌∷◌, map, ℕ}
 use Rattle.document.specs.declared.Refusal.{Refusal}

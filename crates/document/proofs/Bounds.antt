@@ -75,15 +75,15 @@ module _ (p : Profile) (acc : Accepted p) where
   pub place_within : (z : ℕ) → z < n * A → Within p (place (z / A) (z % A))
   place_within z h = record { node = (div-lt_iff_lt-mul A>0).1 h; row = mod-lt z A>0 }
 
-  module _ (q : Place) (in-range : Within p q) where
+  module _ (q : Place) (in_range : Within p q) where
     pub strip_number : q.node.0 * A + q.row.0 < n * A
-    strip_number = digits_lt in-range.node in-range.row
+    strip_number = digits_lt in_range.node in_range.row
 
     pub strip_within : (q.node.0 * A + q.row.0) * S + S ≤ n * A * S
     strip_within = room (q.node.0 * A + q.row.0) (n * A) S strip_number
 
     pub partner_within : Within p (partner_of A q)
     partner_within = record {
-      node = omega (arith, group_within q.node.0 in-range.node, in-range.row);
+      node = omega (arith, group_within q.node.0 in_range.node, in_range.row);
       row = mod-lt q.node.0 A>0;
     }

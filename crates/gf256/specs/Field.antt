@@ -6,7 +6,7 @@
 -- bit_product n a b    : the product of a and the n lowest bits of b
 -- a ⊗ b               : the product
 -- power n             : the n-th power of 2
--- log-from m n p a    : the logarithm of a among the m numbers from n on, where p is the power at n
+-- log_from m n p a    : the logarithm of a among the m numbers from n on, where p is the power at n
 -- log a               : the logarithm of a; 0 for 0
 -- table_of f           : the table of 256 entries that holds f at each byte
 -- squares n a         : the product of a^2, a^4, a^8, .., n factors

@@ -1,10 +1,10 @@
 -- What document 01 says of logarithms, and document 02 of products (K4) and of inverses (K10), as statements about the
 -- definitions of Field.antt.
 --
--- LogarithmLaws : what the logarithms are                      logarithm-laws
+-- LogarithmLaws : what the logarithms are                      logarithm_laws
 -- less_cycle n   : n, less 255 where it is above 254
--- ProductLaws   : what the products are by the logarithms      product-laws
--- InverseLaws   : what the inverses are                        inverse-laws
+-- ProductLaws   : what the products are by the logarithms      product_laws
+-- InverseLaws   : what the inverses are                        inverse_laws
 -- Shown in proofs/Laws.antt, under the name beside each.
 use Rattle.std.specs.Prelude.{◌≡◌, ◌↔◌, cond, ℕ, ◌+◌, ◌-◌, ◌≤◌, ◌<◌, ltb}
 use Rattle.gf256.specs.declared.Inverted.TheVariants.{Byte, NoInverse}

@@ -2,7 +2,7 @@
 --
 -- longest_input : the head and the longest bundle
 -- LongerInput  : a longer input is answered as its first bytes are, if these are more than that. Shown in
---                proofs/Longer.antt: longer-input
+--                proofs/Longer.antt: longer_input
 use Rattle.std.specs.Prelude.{◌≡◌, List, ℕ, ◌+◌, ◌≤◌, ◌<◌, length, take}
 use Rattle.document.specs.Bundle.{longest_bundle}
 use Rattle.document.specs.Program.{program_head, program_of}

@@ -3,7 +3,7 @@
 --
 -- numbers n k a edition : the numbers (n,k,A), t = 2, S = 1, in an edition
 -- plans                 : plans that tell the editions apart, and numbers that are no edition
--- plans-shown           : what they give is what is due
+-- plans_shown           : what they give is what is due
 use Rattle.std.specs.Prelude.{◌≡◌, refl, List, [], ◌∷◌, map, ℕ}
 use Rattle.lists.specs.Listed.{rising, along}
 use Rattle.document.specs.declared.Numbers.{Numbers}

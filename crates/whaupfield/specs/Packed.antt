@@ -9,7 +9,7 @@
 -- no_inverse        : the number that says that a byte has no inverse: WHAUPFIELD_NO_INVERSE
 -- packed_inverse i  : the inverse of a byte: 0 in the low byte and the inverse above it, or that number alone
 -- SurveyFits       : no survey's position or number of sets needs more than 22 bits. Shown in proofs/Values.antt:
---                    survey-fits
+--                    survey_fits
 --
 -- What the header's macros take out of such a number w:
 -- unpacked_number w   : WHAUPFIELD_NUMBER
@@ -17,12 +17,12 @@
 -- unpacked_outcome w  : WHAUPFIELD_OUTCOME
 -- unpacked_position w : WHAUPFIELD_POSITION
 -- unpacked_looked w   : WHAUPFIELD_LOOKED
--- GivenBack          : they give number and value of every answer back. Shown in proofs/Values.antt: given-back
+-- GivenBack          : they give number and value of every answer back. Shown in proofs/Values.antt: given_back
 -- SurveyGivenBack s  : they give number, outcome, position and sets looked at of the survey's answer s back
 -- SurveysGivenBack   : so they do of every answer that a survey can give. Shown in proofs/Values.antt:
---                      surveys-given-back
+--                      surveys_given_back
 -- InverseGivenBack   : they give the inverse back, and that there is none, whose number is that of no refusal. Shown in
---                      proofs/Values.antt: inverse-given-back
+--                      proofs/Values.antt: inverse_given_back
 use Rattle.std.specs.Prelude.{◌≡◌, ◌≢◌, List, ℕ, ◌+◌, ◌*◌, ◌/◌, ◌%◌, ◌^◌, ◌<◌}
 use Rattle.gf256.specs.declared.Inverted.{Inverted}
 use Rattle.gf256.specs.declared.Inverted.TheVariants.{Byte, NoInverse}
