@@ -1,7 +1,7 @@
 -- `rebuild::put_rows` meets its contract. The invariant: the rows before the one reached are written.
 use mathlib.Core.Path.{◌≡◌, sym, ap, subst, ◌∙◌}
 use mathlib.Core.List.{List, ◌++◌}
-use Prim.Native.Nat.{ℕ, ◌+◌, ◌*◌, ◌≤◌, zero-le}
+use Prim.Native.Nat.{ℕ, ◌+◌, ◌*◌, ◌≤◌}
 use native.Mathlib.Omega.{arith}
 use borrow.Author.Rules.{rules}
 use lib.ListN.{length, take, drop, replicate, length-take, length-drop}
@@ -81,7 +81,7 @@ module _ (c : After-pair_determinants) where
 pub loop-row-init : goal.loop-row-init
 loop-row-init c =
     let a = c.args in (
-      zero-le,
+      omega arith,
       c.requires.column_len.0,
       none_parts a.p.s (row_of a.p a.f a.own.now a.chosen.now a.folded.now) a.column.now,
     )
