@@ -26,7 +26,8 @@ answer_of_read (Some xs) (Some ys) buf n room fits p ended = go (dec_lt n (lengt
         sym (longer_input (longest_input + 1) (omega arith) xs long ∙ ap program_of front)
 
 -- what one read consumed stands after what those before it consumed
-pub Consumes-twice : (a b c : Option (List ℕ)) (bs cs : List ℕ) → Consumes a b bs → Consumes b c cs → Consumes a c (bs ++ cs)
+pub Consumes-twice : (a b c : Option (List ℕ)) (bs cs : List ℕ) → Consumes a b bs → Consumes b c cs
+    → Consumes a c (bs ++ cs)
 Consumes-twice None b c bs cs p q = tt
 Consumes-twice (Some x) None c bs cs p q = absurd p
 Consumes-twice (Some x) (Some y) None bs cs p q = absurd q

@@ -1,8 +1,8 @@
 // The small program of document 01, with K2's run: thirteen bytes and a bundle on standard input, the rebuilt column or
 // the line of a refusal on standard output.
 //
-// A read or a write that fails ends the program with its error, and status 1: what was read by then is not answered as if
-// the input ended there. A read that a signal interrupts is tried again.
+// A read or a write that fails ends the program with its error, and status 1: what was read by then is not answered as
+// if the input ended there. A read that a signal interrupts is tried again.
 #![tactic(auto)]
 
 ghost use Rattle.std.specs.Prelude.{◌<◌, length, take, IfOk, IfSome, OnOk};
