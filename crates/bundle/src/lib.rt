@@ -2,9 +2,8 @@
 // from a stored array, and compared by a reader with what is wanted.
 #![tactic(auto)]
 
-ghost use Rattle.std.specs.Prelude.{◌≡◌, ◌*◌, ◌<◌, length};
+ghost use Rattle.std.specs.Prelude.{◌≡◌, ◌*◌, ◌<◌, length, Ok, Err};
 ghost use Rattle.lists.specs.Put.{Wrote};
-ghost use Rattle.document.specs.declared.Answer.TheVariants.{Done, Refused};
 ghost use Rattle.document.specs.Refusals.{tried};
 ghost use Rattle.document.specs.Profile.{Accepted};
 ghost use Rattle.document.specs.Plan.{price_of};
@@ -13,7 +12,7 @@ ghost use Rattle.document.specs.Bundle.{lost_content, lost_content_length, bundl
 ghost use Rattle.document.specs.Bundle.{bundle_tests};
 ghost use Rattle.document.specs.Rebuild.{first_strip};
 
-use document::{Answer, Checked, Node, Numbers, Profile, Recording, Refusal};
+use document::{Node, Numbers, Profile, Recording, Refusal};
 use fields::OPENING;
 use plan::MAX_PLACES;
 
@@ -63,22 +62,28 @@ fn put_bundle(out: &mut [u8], p: Profile, f: Node, r: Recording, array: &[u8]) -
 }
 
 // Writes a bundle with an accepted profile.
-fn write_with(p: Profile, f: Node, r: Recording, array: &[u8], bundle: &mut [u8]) -> Answer
+fn write_with(
+    p: Profile,
+    f: Node,
+    r: Recording,
+    array: &[u8],
+    bundle: &mut [u8],
+) -> Result<usize, Refusal>
     requires { Accepted p }
     ensures { (result, bundle.new) ≡ write_with p f r array.now bundle.old }
 {
     if f.0 >= p.n {
-        return Answer::Refused(Refusal::OutOfRange);
+        return Err(Refusal::OutOfRange);
     }
     if array.len() != p.n * p.a * p.s {
-        return Answer::Refused(Refusal::BufferLength);
+        return Err(Refusal::BufferLength);
     }
     let length = bundle_length(p);
     if bundle.len() != length {
-        return Answer::Refused(Refusal::BufferLength);
+        return Err(Refusal::BufferLength);
     }
     put_bundle(bundle, p, f, r, array);
-    Answer::Done(length)
+    Ok(length)
 }
 
 // Cuts the bundle for a lost node from a stored array. After a refusal all bytes are what they were.
@@ -88,20 +93,17 @@ pub fn write_bundle(
     r: Recording,
     array: &[u8],
     bundle: &mut [u8],
-) -> Answer
+) -> Result<usize, Refusal>
     ensures { (result, bundle.new) ≡ write_of p lost r array.now bundle.old }
 {
-    let checked = Profile::new(p);
-    match checked {
-        Checked::Rejected(refusal) => Answer::Refused(refusal),
-        Checked::Passed(profile) => write_with(profile, Node(lost), r, array, bundle),
-    }
+    let profile = Profile::new(p)?;
+    write_with(profile, Node(lost), r, array, bundle)
 }
 
-// The answer of reading a bundle, with nothing yet rebuilt: the refusals 6 to 9.
-pub fn check(p: Profile, f: Node, r: Recording, bundle: &[u8]) -> Answer
+// What refuses a bundle that is read: the refusals 6 to 9.
+pub fn check(p: Profile, f: Node, r: Recording, bundle: &[u8]) -> Result<(), Refusal>
     requires { Accepted p × (f.0 < p.n) }
-    ensures { result ≡ tried (bundle_tests p f r bundle.now) Refused (Done 0) }
+    ensures { result ≡ tried (bundle_tests p f r bundle.now) Err (Ok tt) }
 {
     let content = lost_content(f, r);
     let mut places = [0u8; 2 * MAX_PLACES];

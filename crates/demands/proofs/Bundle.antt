@@ -1,4 +1,5 @@
 -- The bundle: writing one, demand 1, and what is cut from a stored array.
+use Rattle.std.specs.Prelude.{Ok}
 use mathlib.Core.Path.{◌≡◌, refl, sym, ap, ◌∙◌}
 use mathlib.Core.Bool.{◌&&◌}
 use mathlib.Core.List.{List, [], ◌∷◌, ◌++◌}
@@ -15,7 +16,6 @@ use Rattle.document.specs.declared.Profile.{Profile}
 use Rattle.document.specs.declared.Node.{Node}
 use Rattle.document.specs.declared.Recording.{Recording}
 use Rattle.document.specs.declared.Refusal.TheVariants.{OutOfRange, BufferLength}
-use Rattle.document.specs.declared.Answer.TheVariants.{Done}
 use Rattle.document.specs.Refusals.{number_of, index_of, answer_number, answer_value, Decides}
 use Rattle.document.specs.Profile.{Accepted, profile_of}
 use Rattle.document.specs.Places.{place}
@@ -72,7 +72,7 @@ module _ (p : Numbers) (f : ℕ) (r : Recording) (x b : List ℕ) where
   bundle = bundle_of wanted node r x
 
   write_call : CallFor p (λ p. write_tests p node x b) (λ p. write_sentences p node x b) ((4, 0) ∷ (5, 0) ∷ []) b
-      (write_of p f r x b) (Done (length bundle), bundle)
+      (write_of p f r x b) (Ok (length bundle), bundle)
   unfolding write_of write_with write_sentences number_of index_of
   write_call =
       call_for p b (λ p. write_tests p node x b) (λ p. write_sentences p node x b) (λ p. length (bundle_of p node r x))
@@ -83,7 +83,7 @@ module _ (p : Numbers) (f : ℕ) (r : Recording) (x b : List ℕ) where
 
   -- ---- writing that is not refused
   module _ (e : answer_number (write_of p f r x b).0 ≡ 0) where
-    granted : Granted p (write_sentences wanted node x b) (write_of p f r x b) (Done (length bundle), bundle)
+    granted : Granted p (write_sentences wanted node x b) (write_of p f r x b) (Ok (length bundle), bundle)
     granted = write_call.granted e
 
     accepted : Accepted wanted

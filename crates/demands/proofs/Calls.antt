@@ -6,15 +6,14 @@
 -- Unrefused table outcome done : what is known of a call where it is not refused
 -- CallOf tests table lines before outcome done : what is known of a call with these tests and this table that is lent
 --                                `before`: its outcome is `done` where it is not refused
+use Rattle.std.specs.Prelude.{Ok, Err}
 use mathlib.Core.Path.{◌≡◌, refl, sym, ap, ◌∙◌}
 use mathlib.Core.Logic.{inl, inr}
 use mathlib.Core.List.{List}
 use Prim.Native.Nat.{ℕ}
 use native.Mathlib.Omega.{arith}
 use Rattle.document.specs.declared.Refusal.{Refusal}
-use Rattle.document.specs.declared.Answer.{Answer}
-use Rattle.document.specs.declared.Answer.TheVariants.{Done, Refused}
-use Rattle.document.specs.Refusals.{answer_number, Test, tried}
+use Rattle.document.specs.Refusals.{answer_number, Test, tried, Answer}
 use Rattle.document.proofs.Decides.{decides_false}
 use Rattle.document.proofs.Refusals.{never_zero}
 use Rattle.document.proofs.Tried.{tried_holds, tried_not}
@@ -72,37 +71,37 @@ pub record CallOf {X : Type 0} (tests : List Test) (table : List Sentence) (line
   -- what an answer with the number 0 tells
   pub granted : answer_number outcome.0 ≡ 0 → Unrefused table outcome done
   -- what the table tells of the answer
-  pub stops : {r : Refusal} → FirstOf table r → outcome ≡ (Refused r, before)
+  pub stops : {r : Refusal} → FirstOf table r → outcome ≡ (Err r, before)
   pub through : NoneHolds table → outcome ≡ done
 
 module _ {X : Type 0} (before : X) (v : ℕ) (after : X) {tests : List Test} {table : List Sentence}
     (decides : Decided tests table) where
   abbrev outcome : Answer × X
-  outcome = tried tests (λ r. (Refused r, before)) (Done v, after)
+  outcome = tried tests (λ r. (Err r, before)) (Ok v, after)
 
-  stopped : {r : Refusal} → FirstOf table r → outcome ≡ (Refused r, before)
-  stopped = tried_stops (λ r. (Refused r, before)) (Done v, after) decides
+  stopped : {r : Refusal} → FirstOf table r → outcome ≡ (Err r, before)
+  stopped = tried_stops (λ r. (Err r, before)) (Ok v, after) decides
 
-  passed : NoneHolds table → outcome ≡ (Done v, after)
-  passed = tried_through (λ r. (Refused r, before)) (Done v, after) decides
+  passed : NoneHolds table → outcome ≡ (Ok v, after)
+  passed = tried_through (λ r. (Err r, before)) (Ok v, after) decides
 
-  is_first : (r : Refusal) → outcome.0 ≡ Refused r → FirstOf table r
+  is_first : (r : Refusal) → outcome.0 ≡ Err r → FirstOf table r
   is_first r e = go (first_or_none decides)
     where
       go : FirstOrNone table → FirstOf table r
       go (inl (q, first)) =
-          let told : Refused q ≡ Refused r = sym (ap (λ o. o.0) (stopped first)) ∙ e in
+          let told : Err q ≡ Err r = sym (ap (λ o. o.0) (stopped first)) ∙ e in
           let same : q ≡ r = cc in
           rw (← same) first
       go (inr f) =
-          let told : Done v ≡ Refused r = sym (ap (λ o. o.0) (passed f)) ∙ e in
+          let told : Ok v ≡ Err r = sym (ap (λ o. o.0) (passed f)) ∙ e in
           absurd (let z : ◌≡◌ {A = ℕ} 0 1 = cc in omega arith)
 
-  unrefused : answer_number outcome.0 ≡ 0 → Unrefused table outcome (Done v, after)
+  unrefused : answer_number outcome.0 ≡ 0 → Unrefused table outcome (Ok v, after)
   unfolding answer_number
   unrefused e = go (first_or_none decides)
     where
-      go : FirstOrNone table → Unrefused table outcome (Done v, after)
+      go : FirstOrNone table → Unrefused table outcome (Ok v, after)
       go (inl (r, first)) = absurd (never_zero r (sym (ap (λ o. answer_number o.0) (stopped first)) ∙ e))
       go (inr f) = record { refuted = held f; is_done = passed f }
 
@@ -118,7 +117,7 @@ module _ {X : Type 0} (before : X) (v : ℕ) (after : X) {tests : List Test} {ta
   }
 
   pub call_of_lem : {lines : List (ℕ × ℕ)} → Numbered table lines
-      → CallOf tests table lines before (tried tests (λ r. (Refused r, before)) (Done v, after)) (Done v, after)
+      → CallOf tests table lines before (tried tests (λ r. (Err r, before)) (Ok v, after)) (Ok v, after)
   call_of_lem numbered = record {
     exactly = record { numbered = numbered; decided = decides; refuses = refuses };
     granted = unrefused;

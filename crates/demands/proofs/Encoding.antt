@@ -1,5 +1,6 @@
 -- Encoding: demand 1, and demand 2, first sentence: the encoded array is what document 01 defines, nothing else is, and
 -- encoding writes it.
+use Rattle.std.specs.Prelude.{Ok}
 use mathlib.Core.Path.{◌≡◌, refl, sym, ◌∙◌}
 use mathlib.Core.Bool.{◌&&◌}
 use mathlib.Core.List.{List, [], ◌∷◌}
@@ -15,7 +16,6 @@ use Rattle.document.specs.declared.Numbers.{Numbers}
 use Rattle.document.specs.declared.Profile.{Profile}
 use Rattle.document.specs.declared.Place.{Place}
 use Rattle.document.specs.declared.Refusal.TheVariants.{BufferLength}
-use Rattle.document.specs.declared.Answer.TheVariants.{Done}
 use Rattle.document.specs.Refusals.{number_of, index_of, answer_value, Decides}
 use Rattle.document.specs.Profile.{Accepted, profile_of}
 use Rattle.document.specs.Places.{place, partner_of, Within}
@@ -71,7 +71,7 @@ encode_decided p d x = line refl (decides_not _ (decides_sizes p d x)) (λ l. no
 
 module _ (p : Numbers) (d x : List ℕ) where
   encode_call : CallFor p (λ p. encode_tests p d x) (λ p. encode_sentences p d x) ((5, 0) ∷ []) x (encode_of p d x)
-      (Done 0, encoded (profile_of p) d)
+      (Ok 0, encoded (profile_of p) d)
   unfolding encode_of encode_with encode_sentences number_of index_of
   encode_call =
       call_for p x (λ p. encode_tests p d x) (λ p. encode_sentences p d x) (λ p. 0) (λ p. encoded p d)
@@ -167,7 +167,7 @@ unfolding encode_sentences answer_value
 demand_2_encode p d x e =
     (rw granted.is_done refl, rw granted.is_done (encoded_is (profile_of p) granted.accepted d sizes.0))
   where
-    granted : Granted p (encode_sentences (profile_of p) d x) (encode_of p d x) (Done 0, encoded (profile_of p) d)
+    granted : Granted p (encode_sentences (profile_of p) d x) (encode_of p d x) (Ok 0, encoded (profile_of p) d)
     granted = (encode_call p d x).granted e
 
     sizes : Sizes (profile_of p) d x

@@ -1,4 +1,5 @@
 -- Planning: demand 1, and the planned places of demand 3.
+use Rattle.std.specs.Prelude.{Ok}
 use mathlib.Core.Path.{◌≡◌, refl, ap, ap₂, ◌∙◌}
 use mathlib.Core.Bool.{Bool}
 use mathlib.Core.List.{List, [], ◌∷◌, ◌++◌}
@@ -15,7 +16,6 @@ use Rattle.document.specs.declared.Profile.{Profile}
 use Rattle.document.specs.declared.Node.{Node}
 use Rattle.document.specs.declared.Place.{Place}
 use Rattle.document.specs.declared.Refusal.TheVariants.{OutOfRange}
-use Rattle.document.specs.declared.Answer.TheVariants.{Done}
 use Rattle.document.specs.Refusals.{number_of, index_of, answer_value}
 use Rattle.document.specs.Profile.{profile_of}
 use Rattle.document.specs.Plan.{
@@ -68,7 +68,7 @@ module _ (p : Numbers) (f : ℕ) (x : List ℕ) where
   plan_after p = plan_bytes (planned p lost) ++ drop (2 * length (planned p lost)) x
 
   plan_call : CallFor p (λ p. plan_tests p lost x) (λ p. plan_sentences p lost x) ((4, 0) ∷ (5, 0) ∷ []) x (plan_of p f x)
-      (Done (length (planned (profile_of p) lost)), plan_after (profile_of p))
+      (Ok (length (planned (profile_of p) lost)), plan_after (profile_of p))
   unfolding plan_of plan_with plan_sentences number_of index_of
   plan_call =
       call_for p x (λ p. plan_tests p lost x) (λ p. plan_sentences p lost x) (λ p. length (planned p lost)) plan_after
@@ -157,7 +157,7 @@ demand_3_plan p f x e = record {
     plan = planned (profile_of p) node
 
     granted : Granted p (plan_sentences (profile_of p) node x) (plan_of p f x)
-        (Done (length plan), plan_bytes plan ++ drop (2 * length plan) x)
+        (Ok (length plan), plan_bytes plan ++ drop (2 * length plan) x)
     granted = (plan_call p f x).granted e
 
     below : f < p.n

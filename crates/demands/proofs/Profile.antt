@@ -7,6 +7,7 @@
 -- Granted p table outcome done : what is known of a call with the numbers p where it is not refused
 -- CallFor p tests table lines before outcome done : what is known of a call with the numbers p; its tests, its table
 --                                and its lines are those past the profile's
+use Rattle.std.specs.Prelude.{Result, Ok, Err}
 use mathlib.Core.Path.{◌≡◌, refl, ap, subst, ◌∙◌}
 use mathlib.Core.Logic.{◌≢◌, ◌⊎◌, inl, inr}
 use mathlib.Core.List.{List, [], ◌++◌}
@@ -16,11 +17,7 @@ use native.Mathlib.Omega.{arith}
 use Rattle.document.specs.declared.Numbers.{Numbers}
 use Rattle.document.specs.declared.Profile.{Profile}
 use Rattle.document.specs.declared.Refusal.{Refusal}
-use Rattle.document.specs.declared.Checked.{Checked}
-use Rattle.document.specs.declared.Checked.TheVariants.{Passed, Rejected}
-use Rattle.document.specs.declared.Answer.{Answer}
-use Rattle.document.specs.declared.Answer.TheVariants.{Done, Refused}
-use Rattle.document.specs.Refusals.{number_of, index_of, answer_number, Test, tried}
+use Rattle.document.specs.Refusals.{number_of, index_of, answer_number, Test, tried, Answer}
 use Rattle.document.specs.Profile.{Accepted, profile_tests, profile_of, on_accepted, checked_of, checked_answer}
 use Rattle.document.proofs.Decides.{decides_not, decides_same}
 use Rattle.document.proofs.Accepts.{
@@ -109,21 +106,21 @@ module _ (p : Numbers) where
 
 -- what `Profile::new` hands out
 module _ (p : Numbers) where
-  abbrev HandedOut : Checked → Type 0
-  HandedOut (Passed profile) = profile ≡ profile_of p
-  HandedOut (Rejected r) = Unit
+  abbrev HandedOut : Result Profile Refusal → Type 0
+  HandedOut (Ok profile) = profile ≡ profile_of p
+  HandedOut (Err r) = Unit
 
   handed_out : HandedOut (checked_of p)
   unfolding checked_of on_accepted
-  handed_out = tried_by HandedOut (profile_tests p) Rejected (Passed (profile_of p)) (λ r. tt) (λ h. refl)
+  handed_out = tried_by HandedOut (profile_tests p) Err (Ok (profile_of p)) (λ r. tt) (λ h. refl)
 
   -- its outcome is that of a call which tries a profile's tests alone
-  abbrev told : Checked → Answer × List ℕ
+  abbrev told : Result Profile Refusal → Answer × List ℕ
   told c = (checked_answer c, [])
 
-  alone : told (checked_of p) ≡ tried (profile_tests p) (λ r. (Refused r, [])) (Done 0, [])
+  alone : told (checked_of p) ≡ tried (profile_tests p) (λ r. (Err r, [])) (Ok 0, [])
   unfolding checked_of on_accepted checked_answer
-  alone = tried_map told (profile_tests p) Rejected (Passed (profile_of p))
+  alone = tried_map told (profile_tests p) Err (Ok (profile_of p))
 
   numbered : Numbered (profile_sentences p) profile_lines
   unfolding profile_sentences number_of index_of
@@ -148,7 +145,7 @@ pub record CallFor {X : Type 0} (p : Numbers) (tests : Profile → List Test) (t
   -- what an answer with the number 0 tells
   pub granted : answer_number outcome.0 ≡ 0 → Granted p (table (profile_of p)) outcome done
   -- what the call's own lines tell of the answer, for an accepted profile
-  pub stops : Accepted (profile_of p) → {r : Refusal} → FirstOf (table (profile_of p)) r → outcome ≡ (Refused r, before)
+  pub stops : Accepted (profile_of p) → {r : Refusal} → FirstOf (table (profile_of p)) r → outcome ≡ (Err r, before)
   pub through : Accepted (profile_of p) → NoneHolds (table (profile_of p)) → outcome ≡ done
 
 module _ {X : Type 0} (p : Numbers) (before : X) (tests : Profile → List Test) (table : Profile → List Sentence)
@@ -157,8 +154,8 @@ module _ {X : Type 0} (p : Numbers) (before : X) (tests : Profile → List Test)
     (numbered : Numbered (table (profile_of p)) lines) where
   abbrev call_of : Answer × X
   call_of =
-      on_accepted p (λ r. (Refused r, before))
-      (λ p. tried (tests p) (λ r. (Refused r, before)) (Done (v p), after p))
+      on_accepted p (λ r. (Err r, before))
+      (λ p. tried (tests p) (λ r. (Err r, before)) (Ok (v p), after p))
 
   all_numbered : Numbered (profile_sentences p ++ table (profile_of p)) (profile_lines ++ lines)
   unfolding profile_sentences number_of index_of
@@ -168,12 +165,12 @@ module _ {X : Type 0} (p : Numbers) (before : X) (tests : Profile → List Test)
 
   -- it tries the tests of a profile and its own in a row
   in_a_row : CallOf (profile_tests p ++ tests (profile_of p)) (profile_sentences p ++ table (profile_of p))
-      (profile_lines ++ lines) before call_of (Done (v (profile_of p)), after (profile_of p))
+      (profile_lines ++ lines) before call_of (Ok (v (profile_of p)), after (profile_of p))
   in_a_row =
-      rw (one_list {X = Answer × X} p (λ r. (Refused r, before)) tests (λ p. (Done (v p), after p)))
+      rw (one_list {X = Answer × X} p (λ r. (Err r, before)) tests (λ p. (Ok (v p), after p)))
       (call_of_lem before (v (profile_of p)) (after (profile_of p)) (profile_decided p decides) all_numbered)
 
-  pub call_for : CallFor p tests table lines before call_of (Done (v (profile_of p)), after (profile_of p))
+  pub call_for : CallFor p tests table lines before call_of (Ok (v (profile_of p)), after (profile_of p))
   call_for = record {
     exactly = in_a_row.exactly;
     granted = λ e.
@@ -187,9 +184,9 @@ module _ {X : Type 0} (p : Numbers) (before : X) (tests : Profile → List Test)
 -- its answer, by the tests alone
 pub call_answer : {X : Type 0} (p : Numbers) (before : X) (tests : Profile → List Test) (v : Profile → ℕ)
     (after : Profile → X)
-    → (on_accepted {X = Answer × X} p (λ r. (Refused r, before))
-    (λ p. tried (tests p) (λ r. (Refused r, before)) (Done (v p), after p))).0
-    ≡ on_accepted p Refused (λ p. tried (tests p) Refused (Done (v p)))
+    → (on_accepted {X = Answer × X} p (λ r. (Err r, before))
+    (λ p. tried (tests p) (λ r. (Err r, before)) (Ok (v p), after p))).0
+    ≡ on_accepted p Err (λ p. tried (tests p) Err (Ok (v p)))
 call_answer {X} p before tests v after =
     on_accepted_map (λ (o : Answer × X). o.0) p _ _
-    ∙ on_accepted_same p Refused _ _ (λ acc. tried_map (λ (o : Answer × X). o.0) (tests (profile_of p)) _ _)
+    ∙ on_accepted_same p Err _ _ (λ acc. tried_map (λ (o : Answer × X). o.0) (tests (profile_of p)) _ _)

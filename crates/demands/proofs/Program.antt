@@ -1,4 +1,5 @@
 -- What the small program writes.
+use Rattle.std.specs.Prelude.{Ok, Err}
 use mathlib.Core.Path.{◌≡◌, refl, ap}
 use mathlib.Core.Logic.{◌≢◌}
 use mathlib.Core.Bool.{true, false}
@@ -8,9 +9,7 @@ use native.Mathlib.Omega.{arith}
 use lib.Dec.{eqb}
 use lib.ListN.{length, length-replicate}
 use Rattle.document.specs.declared.Refusal.{Refusal}
-use Rattle.document.specs.declared.Answer.{Answer}
-use Rattle.document.specs.declared.Answer.TheVariants.{Done, Refused}
-use Rattle.document.specs.Refusals.{number_of, answer_number}
+use Rattle.document.specs.Refusals.{number_of, answer_number, Answer}
 use Rattle.document.specs.Program.{wanted_numbers, refusal_line, output_of, program_of}
 use Rattle.document.proofs.Refusals.{never_zero}
 use Rattle.demands.specs.Profile.{profile_sentences}
@@ -24,13 +23,13 @@ use Rattle.demands.proofs.Rebuild.{demand_1_rebuild}
 -- ---- the output, by the answer
 column_out : (o : Answer × List ℕ) → answer_number o.0 ≡ 0 → output_of o ≡ o.1
 unfolding output_of answer_number
-column_out (Done w, x) e = refl
-column_out (Refused r, x) e = absurd (never_zero r e)
+column_out (Ok w, x) e = refl
+column_out (Err r, x) e = absurd (never_zero r e)
 
-line_out : (o : Answer × List ℕ) (r : Refusal) → o.0 ≡ Refused r → output_of o ≡ refusal_line r
+line_out : (o : Answer × List ℕ) (r : Refusal) → o.0 ≡ Err r → output_of o ≡ refusal_line r
 unfolding output_of
-line_out (Done w, x) r e = absurd (let z : ◌≡◌ {A = ℕ} 0 1 = cc in omega arith)
-line_out (Refused s, x) r e = let same : s ≡ r = cc in ap refusal_line same
+line_out (Ok w, x) r e = absurd (let z : ◌≡◌ {A = ℕ} 0 1 = cc in omega arith)
+line_out (Err s, x) r e = let same : s ≡ r = cc in ap refusal_line same
 
 -- ---- the answer is not 5
 -- the refusal r has another number than m

@@ -1,5 +1,6 @@
 -- Reading back: demand 1, and demand 2, the rest: reading back that is done returns the only data with the columns, and
 -- a request in due form is refused exactly when some two different data have equal columns.
+use Rattle.std.specs.Prelude.{Ok, Err}
 use mathlib.Core.Path.{◌≡◌, refl, sym, ap, ◌∙◌}
 use mathlib.Core.Logic.{◌↔◌}
 use mathlib.Core.Bool.{false, ◌&&◌}
@@ -12,7 +13,6 @@ use Rattle.ksets.specs.Sets.{Rising}
 use Rattle.document.specs.declared.Numbers.{Numbers}
 use Rattle.document.specs.declared.Profile.{Profile}
 use Rattle.document.specs.declared.Refusal.TheVariants.{OutOfRange, BufferLength, Ambiguous}
-use Rattle.document.specs.declared.Answer.TheVariants.{Done, Refused}
 use Rattle.document.specs.Refusals.{number_of, index_of, answer_number, answer_value, Decides}
 use Rattle.document.specs.Profile.{Accepted, profile_of}
 use Rattle.document.specs.Encoding.{encoded}
@@ -80,7 +80,7 @@ module _ (p : Profile) (nodes x y : List ℕ) where
 
 module _ (p : Numbers) (nodes x y : List ℕ) where
   read_call : CallFor p (λ p. read_tests p nodes x y) (λ p. read_sentences p nodes x y) ((4, 0) ∷ (5, 0) ∷ (10, 0) ∷ []) y
-      (read_of p nodes x y) (Done 0, data_from (profile_of p) nodes x)
+      (read_of p nodes x y) (Ok 0, data_from (profile_of p) nodes x)
   unfolding read_of read_with read_sentences number_of index_of
   read_call =
       call_for p y (λ p. read_tests p nodes x y) (λ p. read_sentences p nodes x y) (λ p. 0) (λ p. data_from p nodes x)
@@ -95,11 +95,11 @@ module _ (p : Numbers) (nodes x y : List ℕ) where
     decides_ten : Decides (ambiguous (profile_of p) nodes) (TwoData (profile_of p) nodes)
     decides_ten = decides_two (profile_of p) form.profile nodes form.list
 
-    two_refused : TwoData (profile_of p) nodes → read_of p nodes x y ≡ (Refused Ambiguous, y)
+    two_refused : TwoData (profile_of p) nodes → read_of p nodes x y ≡ (Err Ambiguous, y)
     unfolding read_sentences
     two_refused two = read_call.stops form.profile {r = Ambiguous} (search in_order)
 
-    else_done : (TwoData (profile_of p) nodes → ⊥) → read_of p nodes x y ≡ (Done 0, data_from (profile_of p) nodes x)
+    else_done : (TwoData (profile_of p) nodes → ⊥) → read_of p nodes x y ≡ (Ok 0, data_from (profile_of p) nodes x)
     unfolding read_sentences
     else_done other = read_call.through form.profile (search line_by_line)
 
@@ -118,10 +118,10 @@ module _ (p : Numbers) (nodes x y : List ℕ) where
   -- ---- reading back that is done
   module _ (e : answer_number (read_of p nodes x y).0 ≡ 0) where
     granted : Granted p (read_sentences (profile_of p) nodes x y) (read_of p nodes x y)
-        (Done 0, data_from (profile_of p) nodes x)
+        (Ok 0, data_from (profile_of p) nodes x)
     granted = read_call.granted e
 
-    done : read_of p nodes x y ≡ (Done 0, data_from (profile_of p) nodes x)
+    done : read_of p nodes x y ≡ (Ok 0, data_from (profile_of p) nodes x)
     done = granted.is_done
 
     acc : Accepted (profile_of p)

@@ -1,4 +1,5 @@
 -- A rebuild: demand 1, and demand 3 from the bundle on.
+use Rattle.std.specs.Prelude.{Ok}
 use mathlib.Core.Path.{◌≡◌, refl, sym, ap, ◌∙◌}
 use mathlib.Core.Bool.{cond}
 use mathlib.Core.List.{List, ◌∷◌, ◌++◌}
@@ -16,9 +17,7 @@ use Rattle.document.specs.declared.Profile.{Profile}
 use Rattle.document.specs.declared.Node.{Node}
 use Rattle.document.specs.declared.Recording.{Recording}
 use Rattle.document.specs.declared.Refusal.TheVariants.{OutOfRange}
-use Rattle.document.specs.declared.Answer.{Answer}
-use Rattle.document.specs.declared.Answer.TheVariants.{Done}
-use Rattle.document.specs.Refusals.{number_of, index_of, answer_number, answer_value}
+use Rattle.document.specs.Refusals.{number_of, index_of, answer_number, answer_value, Answer}
 use Rattle.document.specs.Profile.{Accepted, profile_of}
 use Rattle.document.specs.Encoding.{column_in}
 use Rattle.document.specs.Plan.{walk_of, planned}
@@ -95,7 +94,7 @@ module _ (p : Numbers) (f : ℕ) (r : Recording) (b y : List ℕ) where
 
   pub rebuild_call : CallFor p (λ p. rebuild_tests p lost r b y) (λ p. rebuild_sentences p lost r b y)
       ((4, 0) ∷ (5, 0) ∷ (6, 0) ∷ (7, 0) ∷ (listed P (λ i. (8, i)) ++ listed P (λ i. (9, i)))) y (rebuild_of p f r b y)
-      (Done 0, rebuilt profile)
+      (Ok 0, rebuilt profile)
   unfolding rebuild_of rebuild_with rebuild_sentences bundle_sentences lost_content recording_bytes four_bytes two_bytes
       number_of index_of
   rebuild_call =
@@ -109,7 +108,7 @@ module _ (p : Numbers) (f : ℕ) (r : Recording) (b y : List ℕ) where
 
   -- ---- a rebuild that is not refused
   module _ (e : NotRefused p f r b y) where
-    granted : Granted p (rebuild_sentences profile lost r b y) (rebuild_of p f r b y) (Done 0, rebuilt profile)
+    granted : Granted p (rebuild_sentences profile lost r b y) (rebuild_of p f r b y) (Ok 0, rebuilt profile)
     granted = rebuild_call.granted e
 
     acc : Accepted profile

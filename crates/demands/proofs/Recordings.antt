@@ -17,8 +17,7 @@ use Rattle.document.specs.declared.Node.{Node}
 use Rattle.document.specs.declared.Place.{Place}
 use Rattle.document.specs.declared.Recording.{Recording}
 use Rattle.document.specs.declared.Refusal.TheVariants.{Stale}
-use Rattle.document.specs.declared.Answer.{Answer}
-use Rattle.document.specs.Refusals.{answer_number}
+use Rattle.document.specs.Refusals.{answer_number, Answer}
 use Rattle.document.specs.Profile.{Accepted, profile_of}
 use Rattle.document.specs.Places.{place, place_at}
 use Rattle.document.specs.Plan.{planned}

@@ -1,5 +1,6 @@
 -- The result of a survey, for an accepted start: what it says of the sets, and the results of two ranges one after the
 -- other.
+use Rattle.std.specs.Prelude.{Result, Ok}
 use mathlib.Core.Path.{◌≡◌, sym, ap, subst, ◌∙◌}
 use mathlib.Core.Bool.{false≢true}
 use mathlib.Core.List.{List}
@@ -61,7 +62,7 @@ module _ (p : Profile) (acc : Accepted p) (start most : ℕ) (x : List ℕ) (wit
       (λ h e. done (none_before (sets n k) (omega arith) (omega arith)) e (omega arith))
       (λ h e.
       let all : looked ≡ most = omega arith in
-      subst (λ (m : ℕ). Tells p start most x (Open m, x)) (sym all)
+      subst (λ (m : ℕ). Tells p start most x (Ok (Open m), x)) (sym all)
       (left_open (none_before (start + most) (omega arith) (omega arith))
       (omega arith)))
 
@@ -92,7 +93,7 @@ module _ (p : Profile) (start most more : ℕ) (x : List ℕ) (within : start �
 
   -- none does, and none is left
   pub join_done : start + looked_at p start most ≤ found_from p start most → start + looked_at p start most ≡ sets n k
-      → result_of p start (most + more) x ≡ (Done (looked_at p start most), x)
+      → result_of p start (most + more) x ≡ (Ok (Done (looked_at p start most)), x)
   unfolding found_from
   join_done h e =
       let same : both ≡ first = omega arith in
@@ -102,11 +103,11 @@ module _ (p : Profile) (start most more : ℕ) (x : List ℕ) (within : start �
   -- none does, and some are left: the second survey goes on
   pub join_open : start + most < sets n k → start + looked_at p start most ≤ found_from p start most
       → result_of p start (most + more) x
-      ≡ joined_outcome (Open (looked_at p start most), x) (result_of p (start + most) more x)
+      ≡ joined_outcome (Ok (Open (looked_at p start most)), x) (result_of p (start + most) more x)
   unfolding found_from
   join_open left h =
       by_result p (start + most) more x
-      (λ t. result_of p start (most + more) x ≡ joined_outcome (Open (looked_at p start most), x) t)
+      (λ t. result_of p start (most + more) x ≡ joined_outcome (Ok (Open (looked_at p start most)), x) t)
       (λ l.
       let added : found_from p (start + most) more - start + 1
       ≡ first + (found_from p (start + most) more - (start + most) + 1) =

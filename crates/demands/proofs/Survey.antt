@@ -1,5 +1,6 @@
 -- The survey: demand 1, what each outcome says is so, 'done' from the first set on means that every set can be read,
 -- and surveys of adjoining ranges join into one.
+use Rattle.std.specs.Prelude.{Result, Ok, Err}
 use mathlib.Core.Path.{◌≡◌, refl, sym, ap, subst, ◌∙◌}
 use mathlib.Core.Logic.{◌⊎◌, inl, inr}
 use mathlib.Core.List.{List, ◌++◌}
@@ -15,10 +16,8 @@ use Rattle.document.specs.declared.Profile.{Profile}
 use Rattle.document.specs.declared.Refusal.{Refusal}
 use Rattle.document.specs.declared.Refusal.TheVariants.{OutOfRange, BufferLength}
 use Rattle.document.specs.declared.Surveyed.{Surveyed}
-use Rattle.document.specs.declared.Surveyed.TheVariants.{Done, Refused}
-use Rattle.document.specs.declared.Answer.{Answer}
-use Rattle.document.specs.declared.Answer.TheVariants as answers
-use Rattle.document.specs.Refusals.{number_of, index_of, answer_number, answer_value, tried}
+use Rattle.document.specs.declared.Surveyed.TheVariants.{Done}
+use Rattle.document.specs.Refusals.{number_of, index_of, answer_number, answer_value, tried, Answer}
 use Rattle.document.specs.Profile.{Accepted, profile_tests, profile_of, on_accepted}
 use Rattle.document.specs.Survey.{result_of, survey_tests, survey_with, survey_of, survey_answer}
 use Rattle.document.proofs.Decides.{decides_le, decides_lt, decides_eq, decides_not, decided}
@@ -59,28 +58,28 @@ survey_decided p start x =
     (λ h. line refl (decides_not _ (decides_eq (length x) p.k)) (λ l. none))
 
 module _ (p : Numbers) (start most : ℕ) (x : List ℕ) where
-  abbrev answer_of : Surveyed × List ℕ → Answer × List ℕ
+  abbrev answer_of : Result Surveyed Refusal × List ℕ → Answer × List ℕ
   answer_of s = (survey_answer s.0, s.1)
 
   abbrev looked_after : Profile → ℕ
   looked_after p = answer_value (survey_answer (result_of p start most x).0)
 
   told : answer_of (survey_of p start most x)
-      ≡ on_accepted p (λ r. (answers.Refused r, x))
-      (λ p. tried (survey_tests p start x) (λ r. (answers.Refused r, x))
-      (answers.Done (looked_after p), (result_of p start most x).1))
+      ≡ on_accepted p (λ r. (Err r, x))
+      (λ p. tried (survey_tests p start x) (λ r. (Err r, x))
+      (Ok (looked_after p), (result_of p start most x).1))
   unfolding survey_of survey_with survey_answer answer_value
   told =
-      on_accepted_map answer_of p (λ r. (Refused r, x)) (λ p. survey_with p start most x)
-      ∙ on_accepted_same p (λ r. (answers.Refused r, x)) _ _
+      on_accepted_map answer_of p (λ r. (Err r, x)) (λ p. survey_with p start most x)
+      ∙ on_accepted_same p (λ r. (Err r, x)) _ _
       (λ acc. tried_map answer_of (survey_tests (profile_of p) start x) _ (result_of (profile_of p) start most x)
-      ∙ ap (λ (a : Answer). tried (survey_tests (profile_of p) start x) (λ r. (answers.Refused r, x))
+      ∙ ap (λ (a : Answer). tried (survey_tests (profile_of p) start x) (λ r. (Err r, x))
       (a, (result_of (profile_of p) start most x).1)) is_done)
     where
-      is_done : survey_answer (result_of (profile_of p) start most x).0 ≡ answers.Done (looked_after (profile_of p))
+      is_done : survey_answer (result_of (profile_of p) start most x).0 ≡ Ok (looked_after (profile_of p))
       is_done =
           by_result (profile_of p) start most x
-          (λ s. survey_answer s.0 ≡ answers.Done (answer_value (survey_answer s.0)))
+          (λ s. survey_answer s.0 ≡ Ok (answer_value (survey_answer s.0)))
           (λ h. refl) (λ h e. refl) (λ h e. refl)
 
   pub demand_1_survey : Demand1Survey p start most x
@@ -97,17 +96,17 @@ record Allowed (p : Numbers) (start : ℕ) (x : List ℕ) : Type 0 where
   room : length x ≡ p.k
 
 abbrev AlwaysRefused : Numbers → ℕ → List ℕ → Type 0
-AlwaysRefused p start x = (r : Refusal) × ((most : ℕ) → survey_of p start most x ≡ (Refused r, x))
+AlwaysRefused p start x = (r : Refusal) × ((most : ℕ) → survey_of p start most x ≡ (Err r, x))
 
 module _ (p : Numbers) (start : ℕ) (x : List ℕ) where
   abbrev own : List Sentence
   own = survey_sentences (profile_of p) start x
 
   survey_tried : (most : ℕ) → survey_of p start most x
-      ≡ tried (profile_tests p ++ survey_tests (profile_of p) start x) (λ r. (Refused r, x))
+      ≡ tried (profile_tests p ++ survey_tests (profile_of p) start x) (λ r. (Err r, x))
       (result_of (profile_of p) start most x)
   unfolding survey_of survey_with
-  survey_tried most = one_list p (λ r. (Refused r, x)) (λ p. survey_tests p start x) (λ p. result_of p start most x)
+  survey_tried most = one_list p (λ r. (Err r, x)) (λ p. survey_tests p start x) (λ p. result_of p start most x)
 
   tests_decided : Decided (profile_tests p ++ survey_tests (profile_of p) start x) (profile_sentences p ++ own)
   tests_decided = profile_decided p (λ acc. survey_decided _ start x)
@@ -145,7 +144,7 @@ survey_tells p start most x e = go (refused_or_allowed p start x)
     go : AlwaysRefused p start x ⊎ Allowed p start x
         → Tells (profile_of p) start most x (survey_of p start most x)
     go (inl (r, refused)) =
-        let told : answer_number (answers.Refused r) ≡ 0 = rw (refused most) at e in absurd (never_zero r told)
+        let told : answer_number (Err r) ≡ 0 = rw (refused most) at e in absurd (never_zero r told)
     go (inr A) =
         rw (allowed_result p start x most A) (result_tells (profile_of p) A.profile start most x A.within)
 
@@ -165,8 +164,8 @@ all_sets n k = record {
 }
 
 -- 'done' from the first set on: no set fails,
-done_none : (p : Profile) (most looked : ℕ) (x : List ℕ) {outcome : Surveyed × List ℕ} → Tells p 0 most x outcome
-    → outcome.0 ≡ Done looked → NoneFails p 0 (sets p.n p.k)
+done_none : (p : Profile) (most looked : ℕ) (x : List ℕ) {outcome : Result Surveyed Refusal × List ℕ} → Tells p 0 most x outcome
+    → outcome.0 ≡ Ok (Done looked) → NoneFails p 0 (sets p.n p.k)
 done_none p most looked x (failing a b f g c d) e = absurd (let z : ◌≡◌ {A = ℕ} 0 1 = cc in omega arith)
 done_none p most looked x (done clear a b) e = clear
 done_none p most looked x (left_open clear a) e = absurd (let z : ◌≡◌ {A = ℕ} 0 1 = cc in omega arith)

@@ -5,13 +5,11 @@
 -- Demand1Profile p   : the outcome of looking at the numbers p alone. Shown in proofs/Profile.antt: demand_1_profile
 -- Demand1For p tests table lines before outcome : a call that is given the numbers p refuses by these lines, and then
 --                      by its own, for an accepted profile. Shown of every such call in proofs/Profile.antt: call_for
-use Rattle.std.specs.Prelude.{◌≡◌, ◌≢◌, ◌⊎◌, List, [], ◌∷◌, ◌++◌, ℕ, ◌≤◌, ◌<◌}
+use Rattle.std.specs.Prelude.{◌≡◌, ◌≢◌, ◌⊎◌, List, [], ◌∷◌, ◌++◌, ℕ, ◌≤◌, ◌<◌, Ok}
 use Rattle.document.specs.declared.Numbers.{Numbers}
 use Rattle.document.specs.declared.Profile.{Profile}
 use Rattle.document.specs.declared.Refusal.TheVariants.{Shape, Constant, StripLength, Edition}
-use Rattle.document.specs.declared.Checked.TheVariants.{Passed}
-use Rattle.document.specs.declared.Answer.{Answer}
-use Rattle.document.specs.Refusals.{Test}
+use Rattle.document.specs.Refusals.{Test, Answer}
 use Rattle.document.specs.Profile.{ShapeAccepted, Accepted, profile_tests, profile_of, checked_of, checked_answer}
 use Rattle.demands.specs.Tables.{Sentence, Demand1Of}
 
@@ -33,7 +31,7 @@ profile_lines = (1, 0) ∷ (2, 0) ∷ (3, 0) ∷ (13, 0) ∷ []
 pub record Demand1Profile (p : Numbers) : Type 1 where
   pub refuses : Demand1Of {X = List ℕ} (profile_tests p) (profile_sentences p) profile_lines []
       (checked_answer (checked_of p), [])
-  pub passes : (profile : Profile) → checked_of p ≡ Passed profile → (profile ≡ profile_of p) × Accepted profile
+  pub passes : (profile : Profile) → checked_of p ≡ Ok profile → (profile ≡ profile_of p) × Accepted profile
 
 -- For a call that is given a profile's numbers p: its tests, its table and its lines past those of the profile.
 abbrev pub Demand1For : {X : Type 0} → Numbers → (Profile → List Test) → (Profile → List Sentence) → List (ℕ × ℕ)

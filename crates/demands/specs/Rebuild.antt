@@ -27,7 +27,7 @@
 --
 -- planned p f are the planned places, bundle_strip p b i is the strip i of the bundle b: document/specs/Plan.antt and
 -- Bundle.antt.
-use Rattle.std.specs.Prelude.{◌≡◌, ◌≢◌, List, ◌∷◌, ◌++◌, ℕ, ◌*◌, ◌<◌, length}
+use Rattle.std.specs.Prelude.{◌≡◌, ◌≢◌, List, ◌∷◌, ◌++◌, ℕ, ◌*◌, ◌<◌, length, Err}
 use Rattle.lists.specs.Each.{Bytes}
 use Rattle.lists.specs.Listed.{listed}
 use Rattle.document.specs.declared.Numbers.{Numbers}
@@ -36,7 +36,6 @@ use Rattle.document.specs.declared.Node.{Node}
 use Rattle.document.specs.declared.Place.{Place}
 use Rattle.document.specs.declared.Recording.{Recording}
 use Rattle.document.specs.declared.Refusal.TheVariants.{OutOfRange, BufferLength, Form}
-use Rattle.document.specs.declared.Answer.TheVariants.{Refused}
 use Rattle.document.specs.Refusals.{answer_number, answer_value}
 use Rattle.document.specs.Profile.{Accepted, profile_of}
 use Rattle.document.specs.Encoding.{column_in}
@@ -156,7 +155,7 @@ module _ (p : Numbers) (f : ℕ) where
   OtherEdition =
       (numbers : Numbers) (node : ℕ) (x : List ℕ) (recording r : Recording) (b y : List ℕ)
       → CutFrom numbers node x recording b → numbers.edition ≢ p.edition → Accepted wanted → f < p.n
-      → length y ≡ p.a * p.s → rebuild_of p f r b y ≡ (Refused Form, y)
+      → length y ≡ p.a * p.s → rebuild_of p f r b y ≡ (Err Form, y)
 
   -- A bundle that is not refused is the one that is cut, for the wanted recording, from any array with its strips:
   -- refusals 6 to 9 leave no byte but the strips free.

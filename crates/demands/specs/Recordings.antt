@@ -16,13 +16,12 @@
 --
 -- In all of them p are the wanted numbers, f is the wanted node, r or w a recording, b a bundle, y what the buffer lent
 -- for the column holds.
-use Rattle.std.specs.Prelude.{◌≡◌, ◌≢◌, ◌⊎◌, List, [], ◌∷◌, ℕ, ◌+◌, ◌*◌, ◌<◌, length}
+use Rattle.std.specs.Prelude.{◌≡◌, ◌≢◌, ◌⊎◌, List, [], ◌∷◌, ℕ, ◌+◌, ◌*◌, ◌<◌, length, Err}
 use Rattle.lists.specs.Put.{slice}
 use Rattle.document.specs.declared.Numbers.{Numbers}
 use Rattle.document.specs.declared.Place.{Place}
 use Rattle.document.specs.declared.Recording.{Recording}
 use Rattle.document.specs.declared.Refusal.TheVariants.{Form, Stale}
-use Rattle.document.specs.declared.Answer.TheVariants.{Refused}
 use Rattle.document.specs.Profile.{Accepted, profile_of}
 use Rattle.document.specs.Plan.{planned}
 use Rattle.document.specs.Rebuild.{rebuild_of}
@@ -62,7 +61,7 @@ module _ (p : Numbers) (f : ℕ) where
   MixedRefused =
       (r : Recording) (recording_of : ℕ → Recording) (b y : List ℕ) → PutTogether r recording_of b
       → length y ≡ p.a * p.s → (i : ℕ) → i < length plan → ((e : ℕ) → e < i → recording_of e ≡ r)
-      → recording_of i ≢ r → InSixBytes r → InSixBytes (recording_of i) → rebuild_of p f r b y ≡ (Refused (Stale i), y)
+      → recording_of i ≢ r → InSixBytes r → InSixBytes (recording_of i) → rebuild_of p f r b y ≡ (Err (Stale i), y)
 
   abbrev pub TogetherPasses : Type 0
   TogetherPasses =
@@ -79,4 +78,4 @@ module _ (p : Numbers) (f : ℕ) where
   abbrev pub OldRefused : Type 0
   OldRefused =
       Accepted (profile_of p) → f < p.n → (r : Recording) (b y : List ℕ) → length y ≡ p.a * p.s → OldForm b
-      → rebuild_of p f r b y ≡ (Refused Form, y)
+      → rebuild_of p f r b y ≡ (Err Form, y)

@@ -24,12 +24,13 @@
 -- Rising n k nodes      : nodes are k strictly rising numbers below n
 -- Smaller u v           : u stands before v in lexicographic order
 -- TwoData p nodes       : some two different data give equal columns on the named nodes
-use Rattle.std.specs.Prelude.{◌≡◌, ◌↔◌, ◌≢◌, List, [], ◌∷◌, ℕ, ◌+◌, ◌≤◌, ◌<◌, length}
+use Rattle.std.specs.Prelude.{Result, Ok, Err, ◌≡◌, ◌↔◌, ◌≢◌, List, [], ◌∷◌, ℕ, ◌+◌, ◌≤◌, ◌<◌, length}
 use Rattle.ksets.specs.Sets.{sets, set_at, rank_of, Rising, Smaller, next_of}
 use Rattle.document.specs.declared.Numbers.{Numbers}
 use Rattle.document.specs.declared.Profile.{Profile}
+use Rattle.document.specs.declared.Refusal.{Refusal}
 use Rattle.document.specs.declared.Surveyed.{Surveyed}
-use Rattle.document.specs.declared.Surveyed.TheVariants.{Failing, Done, Open, Refused}
+use Rattle.document.specs.declared.Surveyed.TheVariants.{Failing, Done, Open}
 use Rattle.document.specs.declared.Refusal.TheVariants.{OutOfRange, BufferLength}
 use Rattle.document.specs.Refusals.{answer_number, Decides}
 use Rattle.document.specs.Profile.{Accepted, profile_of}
@@ -63,16 +64,16 @@ module _ (p : Profile) where
   NoneFails from to = (pos : ℕ) → from ≤ pos → pos < to → Fails pos → ⊥
 
   -- What the answer, and the buffer after it, say of a survey of at most `most` sets from `start` on, lent x.
-  pub data Tells (start most : ℕ) (x : List ℕ) : Surveyed × List ℕ → Type 0 where
+  pub data Tells (start most : ℕ) (x : List ℕ) : Result Surveyed Refusal × List ℕ → Type 0 where
     -- 'failing, with position (counted from the first set of all, whatever the start) and the set written out'; 'up to
     -- and with the first failing one, if it is among the first B from the start'
     failing : {pos looked : ℕ} → start ≤ pos → pos < sets n k → Fails pos → NoneFails start pos
-        → start + looked ≡ pos + 1 → looked ≤ most → Tells start most x (Failing pos looked, set_at 0 n k pos)
+        → start + looked ≡ pos + 1 → looked ≤ most → Tells start most x (Ok (Failing pos looked), set_at 0 n k pos)
     -- 'it is done if none is left after that': all that was left was looked at
     done : {looked : ℕ} → NoneFails start (sets n k) → start + looked ≡ sets n k → looked ≤ most
-        → Tells start most x (Done looked, x)
+        → Tells start most x (Ok (Done looked), x)
     -- 'otherwise open': B sets were looked at, and some are left
-    left_open : NoneFails start (start + most) → start + most < sets n k → Tells start most x (Open most, x)
+    left_open : NoneFails start (start + most) → start + most < sets n k → Tells start most x (Ok (Open most), x)
 
 -- A survey that is not refused, for all numbers and bytes.
 abbrev pub SurveyTells : Type 0
@@ -103,18 +104,18 @@ pub record AllSets (n k : ℕ) : Type 0 where
 -- 'done' from the first set on: each request in due form is answered.
 abbrev pub DoneReadsAll : Type 0
 DoneReadsAll =
-    (p : Numbers) (most looked : ℕ) (set : List ℕ) → (survey_of p 0 most set).0 ≡ Done looked
+    (p : Numbers) (most looked : ℕ) (set : List ℕ) → (survey_of p 0 most set).0 ≡ Ok (Done looked)
     → (nodes x y : List ℕ) → InDueForm p nodes x y → answer_number (read_of p nodes x y).0 ≡ 0
 
 -- Where the first survey was open the second goes on, and the numbers of sets looked at add up.
-abbrev pub joined_outcome : Surveyed × List ℕ → Surveyed × List ℕ → Surveyed × List ℕ
-joined_outcome (Failing pos looked, x) second = (Failing pos looked, x)
-joined_outcome (Done looked, x) second = (Done looked, x)
-joined_outcome (Refused r, x) second = (Refused r, x)
-joined_outcome (Open looked, x) (Failing pos more, y) = (Failing pos (looked + more), y)
-joined_outcome (Open looked, x) (Done more, y) = (Done (looked + more), y)
-joined_outcome (Open looked, x) (Open more, y) = (Open (looked + more), y)
-joined_outcome (Open looked, x) (Refused r, y) = (Refused r, y)
+abbrev pub joined_outcome : Result Surveyed Refusal × List ℕ → Result Surveyed Refusal × List ℕ → Result Surveyed Refusal × List ℕ
+joined_outcome (Ok (Failing pos looked), x) second = (Ok (Failing pos looked), x)
+joined_outcome (Ok (Done looked), x) second = (Ok (Done looked), x)
+joined_outcome (Err r, x) second = (Err r, x)
+joined_outcome (Ok (Open looked), x) (Ok (Failing pos more), y) = (Ok (Failing pos (looked + more)), y)
+joined_outcome (Ok (Open looked), x) (Ok (Done more), y) = (Ok (Done (looked + more)), y)
+joined_outcome (Ok (Open looked), x) (Ok (Open more), y) = (Ok (Open (looked + more)), y)
+joined_outcome (Ok (Open looked), x) (Err r, y) = (Err r, y)
 
 -- Surveys of two ranges, one after the other, are one survey. The second is lent x too: it matters only where the
 -- first was open, and then the first left x as it was.

@@ -19,11 +19,9 @@
 --
 -- Shown of every call that tries its tests in order in proofs/Calls.antt: call_of_lem. Profile.antt has the case of a call
 -- that is given a profile's numbers; each call's table, and demand 1 for it, are in the file of that call.
-use Rattle.std.specs.Prelude.{◌≡◌, ◌↔◌, List, [], ◌∷◌, map, ℕ}
+use Rattle.std.specs.Prelude.{◌≡◌, ◌↔◌, List, [], ◌∷◌, map, ℕ, Err}
 use Rattle.document.specs.declared.Refusal.{Refusal}
-use Rattle.document.specs.declared.Answer.{Answer}
-use Rattle.document.specs.declared.Answer.TheVariants.{Refused}
-use Rattle.document.specs.Refusals.{number_of, index_of, answer_number, Test, Decides}
+use Rattle.document.specs.Refusals.{number_of, index_of, answer_number, Test, Decides, Answer}
 
 -- One line of the table 'Refusals by number, in the order they are tried', for one call.
 pub record Sentence : Type 1 where
@@ -44,11 +42,11 @@ pub data NoneApplies : List Sentence → Type 1 where
 -- of a type that no function can write to.
 pub record RefusesExactly {X : Type 0} (table : List Sentence) (before : X) (outcome : Answer × X) : Type 1 where
   -- 'given exactly when its condition is the first that holds'
-  pub given : (r : Refusal) → (outcome.0 ≡ Refused r) ↔ FirstOf table r
+  pub given : (r : Refusal) → (outcome.0 ≡ Err r) ↔ FirstOf table r
   -- 'On success the answer is 0': exactly when no condition holds
   pub answered : NoneApplies table ↔ (answer_number outcome.0 ≡ 0)
   -- 'and it changes no byte that was lent'
-  pub kept : (r : Refusal) → outcome.0 ≡ Refused r → outcome.1 ≡ before
+  pub kept : (r : Refusal) → outcome.0 ≡ Err r → outcome.1 ≡ before
 
 -- Each test is true exactly where the sentence in its line holds, if it is tried: where no sentence before it does.
 pub data Decided : List Test → List Sentence → Type 1 where

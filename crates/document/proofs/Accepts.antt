@@ -1,4 +1,7 @@
 -- The tests of a profile decide whether its numbers are accepted; and the head of a call, which tries them first.
+use Rattle.std.specs.Result.{IsErrAnd}
+use Rattle.std.proofs.lemmas.Result.{err_from_is_err_and}
+use Rattle.std.specs.Prelude.{Result, Ok, Err}
 use mathlib.Core.Path.{◌≡◌, refl, sym, ap, subst, ◌∙◌}
 use mathlib.Core.Bool.{Bool, true, false, false≢true}
 use mathlib.Core.List.{List, ◌++◌}
@@ -9,24 +12,8 @@ use Rattle.document.specs.declared.Numbers.{Numbers}
 use Rattle.document.specs.declared.Profile.{Profile}
 use Rattle.document.specs.declared.Refusal.{Refusal}
 use Rattle.document.specs.declared.Refusal.TheVariants.{Shape, Constant, StripLength, Edition}
-use Rattle.document.specs.declared.Checked.{Checked}
-use Rattle.document.specs.declared.Checked.TheVariants.{Passed, Rejected}
 use Rattle.document.specs.Refusals.{Test, tried, Decides}
-use Rattle.document.specs.Profile.{
-  max_nodes,
-  max_rows,
-  max_strip,
-  ShapeAccepted,
-  Accepted,
-  shape_accepted,
-  constant_accepted,
-  strip_accepted,
-  edition_accepted,
-  profile_tests,
-  profile_of,
-  on_accepted,
-  checked_of,
-}
+use Rattle.document.specs.Profile.{max_nodes, max_rows, max_strip, ShapeAccepted, Accepted, shape_accepted, constant_accepted, strip_accepted, edition_accepted, profile_tests, profile_of, on_accepted, checked_of}
 use Rattle.document.proofs.Decides.{
   decides_le,
   decides_lt,
@@ -83,26 +70,26 @@ shape_left n k A h = go (leb n max_nodes) (decides_le n max_nodes)
 
 -- the outcome for given numbers, by the tests that led to it
 module _ (p : Numbers) where
-  pub shape_refused : shape_accepted p.n p.k p.a ≡ false → checked_of p ≡ Rejected Shape
+  pub shape_refused : shape_accepted p.n p.k p.a ≡ false → checked_of p ≡ Err Shape
   unfolding checked_of on_accepted profile_tests tried
   shape_refused e = simp e
 
   module _ (shape : shape_accepted p.n p.k p.a ≡ true) where
-    pub constant_refused : constant_accepted p.t ≡ false → checked_of p ≡ Rejected Constant
+    pub constant_refused : constant_accepted p.t ≡ false → checked_of p ≡ Err Constant
     unfolding checked_of on_accepted profile_tests tried
     constant_refused e = simp (shape, e)
 
     module _ (constant : constant_accepted p.t ≡ true) where
-      pub strip_refused : strip_accepted p.s ≡ false → checked_of p ≡ Rejected StripLength
+      pub strip_refused : strip_accepted p.s ≡ false → checked_of p ≡ Err StripLength
       unfolding checked_of on_accepted profile_tests tried
       strip_refused e = simp (shape, constant, e)
 
       module _ (strip : strip_accepted p.s ≡ true) where
-        pub edition_refused : edition_accepted p.edition ≡ false → checked_of p ≡ Rejected Edition
+        pub edition_refused : edition_accepted p.edition ≡ false → checked_of p ≡ Err Edition
         unfolding checked_of on_accepted profile_tests tried
         edition_refused e = simp (shape, constant, strip, e)
 
-        pub none_refused : edition_accepted p.edition ≡ true → checked_of p ≡ Passed (profile_of p)
+        pub none_refused : edition_accepted p.edition ≡ true → checked_of p ≡ Ok (profile_of p)
         unfolding checked_of on_accepted profile_tests tried
         none_refused e = simp (shape, constant, strip, e)
 
@@ -124,34 +111,42 @@ failed_accepted p (shape, (constant, (strip, (edition, _)))) =
     }
 
 -- what a call makes of the outcome of `Profile::new`
-abbrev on_checked : {X : Type 0} → (Refusal → X) → (Profile → X) → Checked → X
-on_checked refuse go (Passed profile) = go profile
-on_checked refuse go (Rejected r) = refuse r
+abbrev on_checked : {X : Type 0} → (Refusal → X) → (Profile → X) → Result Profile Refusal → X
+on_checked refuse go (Ok profile) = go profile
+on_checked refuse go (Err r) = refuse r
 
-abbrev Sound : Checked → Type 0
-Sound (Passed profile) = Accepted profile
-Sound (Rejected r) = Unit
+abbrev Sound : Result Profile Refusal → Type 0
+Sound (Ok profile) = Accepted profile
+Sound (Err r) = Unit
 
 module _ (p : Numbers) where
   sound : Sound (checked_of p)
   unfolding checked_of on_accepted
-  sound = tried_by Sound (profile_tests p) Rejected (Passed (profile_of p)) (λ r. tt) (failed_accepted p)
+  sound = tried_by Sound (profile_tests p) Err (Ok (profile_of p)) (λ r. tt) (failed_accepted p)
 
   -- A profile that `Profile::new` hands out is accepted.
-  pub accepted : {profile : Profile} → checked_of p ≡ Passed profile → Accepted profile
+  pub accepted : {profile : Profile} → checked_of p ≡ Ok profile → Accepted profile
   accepted e = subst Sound e sound
 
   -- A call that goes by the outcome of `Profile::new` tries a profile's refusals first.
   module _ {X : Type 0} (refuse : Refusal → X) (go : Profile → X) where
     head : on_checked refuse go (checked_of p) ≡ on_accepted p refuse go
     unfolding checked_of on_accepted
-    head = tried_map (on_checked refuse go) (profile_tests p) Rejected (Passed (profile_of p))
+    head = tried_map (on_checked refuse go) (profile_tests p) Err (Ok (profile_of p))
 
-    pub rejected : {r : Refusal} → checked_of p ≡ Rejected r → refuse r ≡ on_accepted p refuse go
+    pub rejected : {r : Refusal} → checked_of p ≡ Err r → refuse r ≡ on_accepted p refuse go
     rejected e = sym (ap (on_checked refuse go) e) ∙ head
 
-    pub passed : {profile : Profile} → checked_of p ≡ Passed profile → go profile ≡ on_accepted p refuse go
+    pub passed : {profile : Profile} → checked_of p ≡ Ok profile → go profile ≡ on_accepted p refuse go
     passed e = sym (ap (on_checked refuse go) e) ∙ head
+
+-- A call that ends at the `?` behind `Profile::new`: it answers with that refusal, and leaves y as it was.
+pub refused_exit : {T Y : Type 0} (p : Numbers) (y : Y) (go : Profile → Result T Refusal × Y) {r : Refusal}
+    (o : Result T Refusal) → IsErrAnd o (λ e. e ≡ r) → Err r ≡ checked_of p
+    → (o, y) ≡ on_accepted p (λ r. (Err r, y)) go
+refused_exit {T} p y go o ends head =
+    let e = err_from_is_err_and o ends in
+    ap (λ (o : Result T Refusal). (o, y)) (e.1 ∙ ap Err e.2) ∙ rejected p (λ r. (Err r, y)) go (sym head)
 
 -- Two calls that begin alike are alike if they are with an accepted profile.
 pub on_accepted_same : {X : Type 0} (p : Numbers) (refuse : Refusal → X) (f g : Profile → X)

@@ -1,4 +1,5 @@
 -- The small program: its output by the tests of a rebuild, and that it does not turn on what the lent column holds.
+use Rattle.std.specs.Prelude.{Ok, Err}
 use mathlib.Core.Path.{◌≡◌, refl, sym, ap, ◌∙◌}
 use mathlib.Core.List.{List}
 use Prim.Native.Nat.{ℕ, ◌*◌, min}
@@ -8,9 +9,7 @@ use Rattle.document.specs.declared.Numbers.{Numbers}
 use Rattle.document.specs.declared.Profile.{Profile}
 use Rattle.document.specs.declared.Node.{Node}
 use Rattle.document.specs.declared.Recording.{Recording}
-use Rattle.document.specs.declared.Answer.{Answer}
-use Rattle.document.specs.declared.Answer.TheVariants.{Done, Refused}
-use Rattle.document.specs.Refusals.{tried}
+use Rattle.document.specs.Refusals.{tried, Answer}
 use Rattle.document.specs.Profile.{max_rows, max_strip, profile_of, on_accepted}
 use Rattle.document.specs.Message.{strip_field_length}
 use Rattle.document.specs.Rebuild.{rebuilt_of, rebuild_tests, first_strip, rebuild_with, rebuild_of}
@@ -38,9 +37,9 @@ module _ (p : Numbers) (f : ℕ) (r : Recording) (b : List ℕ) where
   pub output_is : (y : List ℕ) → output_of (rebuild_of p f r b y) ≡ on_accepted p refusal_line (told y)
   unfolding rebuild_of rebuild_with output_of
   output_is y =
-      on_accepted_map output_of p (λ refusal. (Refused refusal, y)) (λ p. rebuild_with p lost r b y)
+      on_accepted_map output_of p (λ refusal. (Err refusal, y)) (λ p. rebuild_with p lost r b y)
       ∙ on_accepted_same p refusal_line _ (told y)
-      (λ acc. tried_map output_of (rebuild_tests (profile_of p) lost r b y) (λ refusal. (Refused refusal, y)) (Done 0, _))
+      (λ acc. tried_map output_of (rebuild_tests (profile_of p) lost r b y) (λ refusal. (Err refusal, y)) (Ok 0, _))
 
   -- a column of the right length is lent where the profile is accepted; elsewhere its length does not count
   any_column : (y z : List ℕ) → length y ≡ min (p.a * p.s) (max_rows * max_strip) → length z ≡ p.a * p.s

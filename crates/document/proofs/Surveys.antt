@@ -1,4 +1,5 @@
 -- The laws of `first_in`, the first of some positions for which a test holds, and the three cases of a survey's result.
+use Rattle.std.specs.Prelude.{Result, Ok}
 use mathlib.Core.Path.{◌≡◌, refl, sym, ap, ◌∙◌}
 use mathlib.Core.Bool.{Bool, true, false, cond, false≢true}
 use mathlib.Core.List.{List}
@@ -9,6 +10,7 @@ use native.Mathlib.Omega.{arith}
 use borrow.Author.Tests.{lt-ltb, le-ltb, eq-eqb, ne_eqb}
 use Rattle.ksets.specs.Sets.{sets, set_at}
 use Rattle.document.specs.declared.Profile.{Profile}
+use Rattle.document.specs.declared.Refusal.{Refusal}
 use Rattle.document.specs.declared.Surveyed.{Surveyed}
 use Rattle.document.specs.declared.Surveyed.TheVariants.{Failing, Done, Open}
 use Rattle.document.specs.Survey.{first_in, looked_at, found_from, result_of}
@@ -127,8 +129,8 @@ module _ (p : Profile) where
 
   -- ---- the result, by its three cases
   -- what is answered and written where the set at a position is the first that fails
-  abbrev pub failing_at : ℕ → ℕ → Surveyed × List ℕ
-  failing_at start pos = (Failing pos (pos - start + 1), set_at 0 n k pos)
+  abbrev pub failing_at : ℕ → ℕ → Result Surveyed Refusal × List ℕ
+  failing_at start pos = (Ok (Failing pos (pos - start + 1)), set_at 0 n k pos)
 
   module _ (start most : ℕ) (x : List ℕ) where
     abbrev looked : ℕ
@@ -144,22 +146,22 @@ module _ (p : Profile) where
 
     module _ (none : start + looked_at p start most ≤ found_from p start most) where
       pub result_done : start + looked_at p start most ≡ sets n k
-          → result_of p start most x ≡ (Done (looked_at p start most), x)
+          → result_of p start most x ≡ (Ok (Done (looked_at p start most)), x)
       unfolding result_of
       result_done e = rw (le-ltb found (start + looked) none, eq-eqb (start + looked) (sets n k) e)
 
       pub result_open : (start + looked_at p start most ≡ sets n k → ⊥)
-          → result_of p start most x ≡ (Open (looked_at p start most), x)
+          → result_of p start most x ≡ (Ok (Open (looked_at p start most)), x)
       unfolding result_of
       result_open e = rw (le-ltb found (start + looked) none, ne_eqb (start + looked) (sets n k) e)
 
     -- What holds in each of the three cases holds of the result.
-    pub by_result : (Q : Surveyed × List ℕ → Type 0)
+    pub by_result : (Q : Result Surveyed Refusal × List ℕ → Type 0)
         → (found_from p start most < start + looked_at p start most → Q (failing_at start (found_from p start most)))
         → (start + looked_at p start most ≤ found_from p start most → start + looked_at p start most ≡ sets n k
-        → Q (Done (looked_at p start most), x))
+        → Q (Ok (Done (looked_at p start most)), x))
         → (start + looked_at p start most ≤ found_from p start most → (start + looked_at p start most ≡ sets n k → ⊥)
-        → Q (Open (looked_at p start most), x))
+        → Q (Ok (Open (looked_at p start most)), x))
         → Q (result_of p start most x)
     by_result Q failing done opened =
         go (dec_lt found (start + looked)) (ℕ_discrete (start + looked) (sets n k))

@@ -1,5 +1,6 @@
 -- The laws of `tried`: one test, a line for each of n things, what an answer tells, two lists in a row, and where no
 -- test holds.
+use Rattle.std.specs.Prelude.{Result, Ok, Err}
 use mathlib.Core.Path.{◌≡◌, refl, sym, ap, ◌∙◌}
 use mathlib.Core.Bool.{Bool, true, false}
 use mathlib.Core.List.{List, [], ◌∷◌, ◌++◌}
@@ -8,7 +9,6 @@ use native.Mathlib.Nat.{le_of_suc-le-suc, not-suc-le-zero, zero-lt-suc}
 use native.Mathlib.Omega.{arith}
 use Rattle.lists.specs.Listed.{listed}
 use Rattle.document.specs.declared.Refusal.{Refusal}
-use Rattle.document.specs.declared.Answer.TheVariants.{Done, Refused}
 use Rattle.document.specs.Refusals.{Test, tried}
 
 -- one test, by its outcome
@@ -43,42 +43,42 @@ module _ {ℓ} {X : Type ℓ} (refuse : Refusal → X) where
       ∙ tried_none n (λ e. T (suc e)) rest x (λ e l. h (suc e) (suc-le-suc l))
 
   -- what the answer of the tests alone tells of a call that tries them
-  module _ (v : ℕ) (z : X) where
-    pub tried_refused : (tests : List Test) (r : Refusal) → tried tests Refused (Done v) ≡ Refused r
+  module _ {Y : Type 0} (v : Y) (z : X) where
+    pub tried_refused : (tests : List Test) (r : Refusal) → tried tests Err (Ok v) ≡ Err r
         → tried tests refuse z ≡ refuse r
     unfolding tried
     tried_refused [] r e = absurd (let d : ◌≡◌ {A = ℕ} 0 1 = cc in omega arith)
     tried_refused (test ∷ tests) r e = go test.holds refl (tried_refused tests r)
       where
-        go : (b : Bool) → test.holds ≡ b → (tried tests Refused (Done v) ≡ Refused r → tried tests refuse z ≡ refuse r)
+        go : (b : Bool) → test.holds ≡ b → (tried tests Err (Ok v) ≡ Err r → tried tests refuse z ≡ refuse r)
             → tried (test ∷ tests) refuse z ≡ refuse r
         go true h rest =
-            let d : Refused test.refusal ≡ Refused r = sym (tried_holds Refused test tests (Done v) h) ∙ e in
+            let d : ◌≡◌ {A = Result Y Refusal} (Err test.refusal) (Err r) = sym (tried_holds Err test tests (Ok v) h) ∙ e in
             let s : test.refusal ≡ r = cc in
             tried_holds refuse test tests z h ∙ ap refuse s
         go false h rest =
-            tried_not refuse test tests z h ∙ rest (sym (tried_not Refused test tests (Done v) h) ∙ e)
+            tried_not refuse test tests z h ∙ rest (sym (tried_not Err test tests (Ok v) h) ∙ e)
 
-    pub tried_passed : (tests : List Test) (u : ℕ) → tried tests Refused (Done v) ≡ Done u → tried tests refuse z ≡ z
+    pub tried_passed : (tests : List Test) (u : Y) → tried tests Err (Ok v) ≡ Ok u → tried tests refuse z ≡ z
     unfolding tried
     tried_passed [] u e = refl
     tried_passed (test ∷ tests) u e = go test.holds refl (tried_passed tests u)
       where
-        go : (b : Bool) → test.holds ≡ b → (tried tests Refused (Done v) ≡ Done u → tried tests refuse z ≡ z)
+        go : (b : Bool) → test.holds ≡ b → (tried tests Err (Ok v) ≡ Ok u → tried tests refuse z ≡ z)
             → tried (test ∷ tests) refuse z ≡ z
         go true h rest =
-            let d : Refused test.refusal ≡ Done u = sym (tried_holds Refused test tests (Done v) h) ∙ e in
+            let d : ◌≡◌ {A = Result Y Refusal} (Err test.refusal) (Ok u) = sym (tried_holds Err test tests (Ok v) h) ∙ e in
             absurd (let s : ◌≡◌ {A = ℕ} 0 1 = cc in omega arith)
         go false h rest =
-            tried_not refuse test tests z h ∙ rest (sym (tried_not Refused test tests (Done v) h) ∙ e)
+            tried_not refuse test tests z h ∙ rest (sym (tried_not Err test tests (Ok v) h) ∙ e)
 
 -- a call that is done tried its first test in vain
-pub first_failed : (test : Test) (tests : List Test) (v u : ℕ) → tried (test ∷ tests) Refused (Done v) ≡ Done u
+pub first_failed : {Y : Type 0} (test : Test) (tests : List Test) (v u : Y) → tried (test ∷ tests) Err (Ok v) ≡ Ok u
     → test.holds ≡ false
 unfolding tried
 first_failed test tests v u e = go test.holds e
   where
-    go : (b : Bool) → tried (record { refusal = test.refusal; holds = b } ∷ tests) Refused (Done v) ≡ Done u
+    go : (b : Bool) → tried (record { refusal = test.refusal; holds = b } ∷ tests) Err (Ok v) ≡ Ok u
         → b ≡ false
     go true e = absurd (let z : ◌≡◌ {A = ℕ} 1 0 = cc in omega arith)
     go false e = refl

@@ -1,5 +1,6 @@
 -- The values of answers are small: a strip's index is below the number of planned places, a bundle is short, and a
 -- survey's position and number of sets are at most the number of sets of 12 of 24 nodes.
+use Rattle.std.specs.Prelude.{Result, Ok, Err}
 use mathlib.Core.Path.{◌≡◌, refl}
 use mathlib.Core.Bool.{Bool, true, false, ◌&&◌, not}
 use mathlib.Core.List.{List, [], ◌∷◌, ◌++◌}
@@ -16,12 +17,9 @@ use Rattle.document.specs.declared.Numbers.{Numbers}
 use Rattle.document.specs.declared.Profile.{Profile}
 use Rattle.document.specs.declared.Node.{Node}
 use Rattle.document.specs.declared.Recording.{Recording}
-use Rattle.document.specs.declared.Answer.{Answer}
-use Rattle.document.specs.declared.Answer.TheVariants.{Done, Refused}
 use Rattle.document.specs.declared.Refusal.{Refusal}
 use Rattle.document.specs.declared.Surveyed.{Surveyed}
-use Rattle.document.specs.declared.Surveyed.TheVariants as surveys
-use Rattle.document.specs.Refusals.{Test, tried, index_of, answer_value}
+use Rattle.document.specs.Refusals.{Test, tried, index_of, answer_value, Answer}
 use Rattle.document.specs.Profile.{Accepted, profile_tests, profile_of, on_accepted}
 use Rattle.document.specs.Encoding.{encode_tests, encode_with, encode_of}
 use Rattle.document.specs.Plan.{planned, max_places, plan_tests, plan_with, plan_of}
@@ -67,12 +65,12 @@ tried_small R refuse x f g (next {test} {tests} h rest) =
 
 module _ {X : Type 0} (x y : X) (v : ℕ) where
   abbrev outcome_of : List Test → Answer × X
-  outcome_of tests = tried tests (λ r. (Refused r, x)) (Done v, y)
+  outcome_of tests = tried tests (λ r. (Err r, x)) (Ok v, y)
 
   value_small : {most : ℕ} {tests : List Test} → Small most (v ≤ most) tests → answer_value (outcome_of tests).0 ≤ most
   unfolding answer_value
   value_small {most} small =
-      tried_small (λ (o : Answer × X). answer_value o.0 ≤ most) (λ r. (Refused r, x)) (Done v, y) (λ r h. h) (λ h. h) small
+      tried_small (λ (o : Answer × X). answer_value o.0 ≤ most) (λ r. (Err r, x)) (Ok v, y) (λ r h. h) (λ h. h) small
 
 -- a test for each of n strips
 small_listed : {most : ℕ} {Q : Type 0} (n : ℕ) (T : ℕ → Test) → ((i : ℕ) → i < n → index_of (T i).refusal ≤ most)
@@ -90,7 +88,7 @@ small_last (suc n) T h value =
     next (h 0 (zero-lt-suc n)) (λ e. small_last n (λ i. T (suc i)) (λ i l. h (suc i) (suc-le-suc l)) value)
 
 -- what a C host is told of a survey: a position, and a number of sets looked at
-pub record Counted (answer : Surveyed) : Type 0 where
+pub record Counted (answer : Result Surveyed Refusal) : Type 0 where
   pub position : failing_position answer ≤ 2704156
   pub looked : looked_in answer ≤ 2704156
 
@@ -107,10 +105,10 @@ module _ (p : Numbers) where
 
   value_by : {X : Type 0} (x : X) (go : Profile → Answer × X) {most : ℕ}
       → (Accepted (profile_of p) → answer_value (go (profile_of p)).0 ≤ most)
-      → answer_value (on_accepted p (λ r. (Refused r, x)) go).0 ≤ most
+      → answer_value (on_accepted p (λ r. (Err r, x)) go).0 ≤ most
   unfolding answer_value
   value_by {X} x go {most} =
-      by_profile (λ (o : Answer × X). answer_value o.0 ≤ most) (λ r. (Refused r, x)) go (λ r h. omega arith)
+      by_profile (λ (o : Answer × X). answer_value o.0 ≤ most) (λ r. (Err r, x)) go (λ r h. omega arith)
 
   pub encode_value : (d x : List ℕ) → answer_value (encode_of p d x).0 ≤ 0
   unfolding encode_of encode_with encode_tests index_of
@@ -126,10 +124,10 @@ module _ (p : Numbers) where
   pub survey_counted : (start most : ℕ) (x : List ℕ) → Counted (survey_of p start most x).0
   unfolding survey_of survey_with survey_tests failing_position looked_in index_of
   survey_counted start most x =
-      by_profile (λ (o : Surveyed × List ℕ). Counted o.0) (λ r. (surveys.Refused r, x)) _
+      by_profile (λ (o : Result Surveyed Refusal × List ℕ). Counted o.0) (λ r. (Err r, x)) _
       (λ r h. record { position = zero-le; looked = zero-le })
       (λ acc.
-      tried_small (λ (o : Surveyed × List ℕ). Counted o.0) {most = 0} (λ r. (surveys.Refused r, x)) _
+      tried_small (λ (o : Result Surveyed Refusal × List ℕ). Counted o.0) {most = 0} (λ r. (Err r, x)) _
       (λ r h. record { position = zero-le; looked = zero-le }) (λ c. c)
       (next zero-le (λ e. next zero-le (λ f. done (counted acc (ltb-false (sets p.n p.k) start e))))))
     where

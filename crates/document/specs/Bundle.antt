@@ -11,16 +11,14 @@
 -- write_of p f r x b   : the same for any numbers p
 -- bundle_tests p f r b : the refusals 6 to 9 of a reader, in their order
 -- bundle_strip p b i   : strip i of the bundle b, from 0
-use Rattle.std.specs.Prelude.{◌&&◌, not, List, [], ◌∷◌, ℕ, ◌+◌, ◌*◌, eqb, ltb, length}
+use Rattle.std.specs.Prelude.{◌&&◌, not, List, [], ◌∷◌, ℕ, ◌+◌, ◌*◌, eqb, ltb, length, Ok, Err}
 use Rattle.fields.specs.Fields.{opening_length}
 use Rattle.document.specs.declared.Numbers.{Numbers}
 use Rattle.document.specs.declared.Profile.{Profile}
 use Rattle.document.specs.declared.Node.{Node}
 use Rattle.document.specs.declared.Recording.{Recording}
 use Rattle.document.specs.declared.Refusal.TheVariants.{OutOfRange, BufferLength}
-use Rattle.document.specs.declared.Answer.{Answer}
-use Rattle.document.specs.declared.Answer.TheVariants.{Done, Refused}
-use Rattle.document.specs.Refusals.{Test, tried}
+use Rattle.document.specs.Refusals.{Test, tried, Answer}
 use Rattle.document.specs.Profile.{max_strip, on_accepted}
 use Rattle.document.specs.Encoding.{strip_of}
 use Rattle.document.specs.Plan.{planned, max_places}
@@ -72,10 +70,10 @@ write_tests p f x b =
 unfoldable pub write_with : Profile → Node → Recording → List ℕ → List ℕ → Answer × List ℕ
 write_with p f r x b =
     let bundle : List ℕ = bundle_of p f r x in
-    tried (write_tests p f x b) (λ refusal. (Refused refusal, b)) (Done (length bundle), bundle)
+    tried (write_tests p f x b) (λ refusal. (Err refusal, b)) (Ok (length bundle), bundle)
 
 unfoldable pub write_of : Numbers → ℕ → Recording → List ℕ → List ℕ → Answer × List ℕ
-write_of p f r x b = on_accepted p (λ refusal. (Refused refusal, b)) (λ p. write_with p (record { 0 = f }) r x b)
+write_of p f r x b = on_accepted p (λ refusal. (Err refusal, b)) (λ p. write_with p (record { 0 = f }) r x b)
 
 -- ---- a bundle to read: 'The rebuild is given the wanted profile, node and scenario beside the bundle', and the run.
 unfoldable pub bundle_tests : Profile → Node → Recording → List ℕ → List Test

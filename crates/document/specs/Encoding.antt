@@ -23,7 +23,7 @@
 --
 -- From the algebra: sum K k f adds f 0 to f (k-1); weight K k x m z is the product over i < k, i not m, of
 -- (z + x i) / (x m + x i); pick is a choice by a decision.
-use Rattle.std.specs.Prelude.{◌≡◌, ◌&&◌, not, List, [], ◌∷◌, ℕ, ◌+◌, ◌*◌, ◌/◌, ◌%◌, eqb, length, get_or}
+use Rattle.std.specs.Prelude.{◌≡◌, ◌&&◌, not, List, [], ◌∷◌, ℕ, ◌+◌, ◌*◌, ◌/◌, ◌%◌, eqb, length, get_or, Ok, Err}
 use Rattle.std.proofs.Math.Decide.{ℕ_discrete, dec_lt}
 use Rattle.lists.specs.Each.{Bytes}
 use Rattle.lists.specs.Listed.{listed}
@@ -36,9 +36,7 @@ use Rattle.document.specs.declared.Numbers.{Numbers}
 use Rattle.document.specs.declared.Profile.{Profile}
 use Rattle.document.specs.declared.Place.{Place}
 use Rattle.document.specs.declared.Refusal.TheVariants.{BufferLength}
-use Rattle.document.specs.declared.Answer.{Answer}
-use Rattle.document.specs.declared.Answer.TheVariants.{Done, Refused}
-use Rattle.document.specs.Refusals.{Test, tried}
+use Rattle.document.specs.Refusals.{Test, tried, Answer}
 use Rattle.document.specs.Profile.{on_accepted}
 use Rattle.document.specs.Places.{place, local_column, partner_of}
 use Rattle.document.specs.ByteField.{bytes, Byte, byte, number}
@@ -126,7 +124,7 @@ encode_tests p d x =
     ∷ []
 
 unfoldable pub encode_with : Profile → List ℕ → List ℕ → Answer × List ℕ
-encode_with p d x = tried (encode_tests p d x) (λ r. (Refused r, x)) (Done 0, encoded p d)
+encode_with p d x = tried (encode_tests p d x) (λ r. (Err r, x)) (Ok 0, encoded p d)
 
 unfoldable pub encode_of : Numbers → List ℕ → List ℕ → Answer × List ℕ
-encode_of p d x = on_accepted p (λ r. (Refused r, x)) (λ p. encode_with p d x)
+encode_of p d x = on_accepted p (λ r. (Err r, x)) (λ p. encode_with p d x)

@@ -30,7 +30,7 @@
 -- nodes_over k w       : the nodes of the three steps
 -- plan_over A k f w    : the places of the three steps; over the edition's walk they are the planned places, which is
 --                       `Demand3Walk` in demands/specs/Plan.antt
-use Rattle.std.specs.Prelude.{Bool, ◌&&◌, not, cond, List, [], ◌∷◌, ◌++◌, map, ℕ, ◌+◌, ◌-◌, ◌*◌, ◌/◌, eqb, ltb, length, take, drop}
+use Rattle.std.specs.Prelude.{Bool, ◌&&◌, not, cond, List, [], ◌∷◌, ◌++◌, map, ℕ, ◌+◌, ◌-◌, ◌*◌, ◌/◌, eqb, ltb, length, take, drop, Ok, Err}
 use Rattle.lists.specs.Listed.{rising, around}
 use Rattle.lists.specs.Each.{ListsOnce}
 use Rattle.document.specs.declared.Numbers.{Numbers}
@@ -38,9 +38,7 @@ use Rattle.document.specs.declared.Profile.{Profile}
 use Rattle.document.specs.declared.Node.{Node}
 use Rattle.document.specs.declared.Place.{Place}
 use Rattle.document.specs.declared.Refusal.TheVariants.{OutOfRange, BufferLength}
-use Rattle.document.specs.declared.Answer.{Answer}
-use Rattle.document.specs.declared.Answer.TheVariants.{Done, Refused}
-use Rattle.document.specs.Refusals.{Test, tried}
+use Rattle.document.specs.Refusals.{Test, tried, Answer}
 use Rattle.document.specs.Profile.{on_accepted}
 use Rattle.document.specs.Places.{place, group_of, local_column, partner_of, place_at}
 
@@ -131,10 +129,10 @@ plan_tests p f x =
 unfoldable pub plan_with : Profile → Node → List ℕ → Answer × List ℕ
 plan_with p f x =
     let plan : List Place = planned p f in
-    tried (plan_tests p f x) (λ r. (Refused r, x)) (Done (length plan), plan_bytes plan ++ drop (2 * length plan) x)
+    tried (plan_tests p f x) (λ r. (Err r, x)) (Ok (length plan), plan_bytes plan ++ drop (2 * length plan) x)
 
 unfoldable pub plan_of : Numbers → ℕ → List ℕ → Answer × List ℕ
-plan_of p f x = on_accepted p (λ r. (Refused r, x)) (λ p. plan_with p (record { 0 = f }) x)
+plan_of p f x = on_accepted p (λ r. (Err r, x)) (λ p. plan_with p (record { 0 = f }) x)
 
 -- ---- for the theorems, and for what computes by them: the same steps over candidates in any order
 -- The candidates of the three steps.

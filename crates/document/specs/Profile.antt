@@ -13,16 +13,12 @@
 --                               with p as a profile if none does
 -- checked_of p                 : the profile with the numbers p, or its first refusal
 -- checked_answer c             : the same as the answer of any call
-use Rattle.std.specs.Prelude.{◌≡◌, Bool, ◌&&◌, not, List, [], ◌∷◌, ℕ, ◌-◌, ◌%◌, ◌≤◌, ◌<◌, eqb, leb, ltb}
+use Rattle.std.specs.Prelude.{◌≡◌, Bool, ◌&&◌, not, List, [], ◌∷◌, ℕ, ◌-◌, ◌%◌, ◌≤◌, ◌<◌, eqb, leb, ltb, Result, Ok, Err}
 use Rattle.document.specs.declared.Numbers.{Numbers}
 use Rattle.document.specs.declared.Profile.{Profile}
 use Rattle.document.specs.declared.Refusal.{Refusal}
 use Rattle.document.specs.declared.Refusal.TheVariants.{Shape, Constant, StripLength, Edition}
-use Rattle.document.specs.declared.Checked.{Checked}
-use Rattle.document.specs.declared.Checked.TheVariants.{Passed, Rejected}
-use Rattle.document.specs.declared.Answer.{Answer}
-use Rattle.document.specs.declared.Answer.TheVariants.{Done, Refused}
-use Rattle.document.specs.Refusals.{Test, tried}
+use Rattle.document.specs.Refusals.{Test, tried, Answer}
 
 -- 'The ceilings are 24 nodes, 4 rows and 512 bytes of strip'
 abbrev pub max_nodes : ℕ
@@ -84,11 +80,11 @@ profile_of p = record { n = p.n; k = p.k; a = p.a; t = p.t; s = p.s; edition = p
 unfoldable pub on_accepted {ℓ} : {X : Type ℓ} → Numbers → (Refusal → X) → (Profile → X) → X
 on_accepted p refuse go = tried (profile_tests p) refuse (go (profile_of p))
 
-unfoldable pub checked_of : Numbers → Checked
-checked_of p = on_accepted p Rejected Passed
+unfoldable pub checked_of : Numbers → Result Profile Refusal
+checked_of p = on_accepted p Err Ok
 
 -- 'For any answer that is an enum, a definition gives this paper's number and values for each case.' The number and the
 -- value are those of the answer: 0 with 0, or the refusal's.
-unfoldable pub checked_answer : Checked → Answer
-checked_answer (Passed p) = Done 0
-checked_answer (Rejected r) = Refused r
+unfoldable pub checked_answer : Result Profile Refusal → Answer
+checked_answer (Ok p) = Ok 0
+checked_answer (Err r) = Err r

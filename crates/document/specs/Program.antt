@@ -9,13 +9,11 @@
 -- refusal_line r         : the line for the refusal r
 -- output_of outcome      : what is written for the outcome of a rebuild
 -- program_of input       : what the program writes
-use Rattle.std.specs.Prelude.{cond, List, [], ◌∷◌, ◌++◌, ℕ, ◌+◌, ◌*◌, ◌/◌, ◌%◌, ltb, get_or, drop, replicate}
+use Rattle.std.specs.Prelude.{cond, List, [], ◌∷◌, ◌++◌, ℕ, ◌+◌, ◌*◌, ◌/◌, ◌%◌, ltb, get_or, drop, replicate, Ok, Err}
 use Rattle.document.specs.declared.Numbers.{Numbers}
 use Rattle.document.specs.declared.Recording.{Recording}
 use Rattle.document.specs.declared.Refusal.{Refusal}
-use Rattle.document.specs.declared.Answer.{Answer}
-use Rattle.document.specs.declared.Answer.TheVariants.{Done, Refused}
-use Rattle.document.specs.Refusals.{number_of, index_of}
+use Rattle.document.specs.Refusals.{number_of, index_of, Answer}
 use Rattle.document.specs.Rebuild.{rebuild_of}
 
 -- 'bytes that are missing count as 0'
@@ -60,8 +58,8 @@ refusal_line r =
 
 -- 'It writes the column's bytes, or one line'
 unfoldable pub output_of : Answer × List ℕ → List ℕ
-output_of (Done v, column) = column
-output_of (Refused r, column) = refusal_line r
+output_of (Ok v, column) = column
+output_of (Err r, column) = refusal_line r
 
 -- '.. and then a bundle, which is all that follows'. Said with a column of the right length, zeros; what a lent column
 -- holds changes nothing of the answer.

@@ -24,7 +24,7 @@
 -- (demands/specs/Reading.antt) says that the test of refusal 10 is true exactly where some two different data give
 -- equal columns, and that the data read back are otherwise the only ones with these columns. What the other tests come
 -- to is said line by line there too.
-use Rattle.std.specs.Prelude.{Bool, true, false, ◌&&◌, not, List, [], ◌∷◌, ◌++◌, ℕ, zero, suc, ◌+◌, ◌*◌, ◌/◌, ◌%◌, eqb, leb, ltb, length, get_or}
+use Rattle.std.specs.Prelude.{Bool, true, false, ◌&&◌, not, List, [], ◌∷◌, ◌++◌, ℕ, zero, suc, ◌+◌, ◌*◌, ◌/◌, ◌%◌, eqb, leb, ltb, length, get_or, Ok, Err}
 use Rattle.std.proofs.Math.Decide.{ℕ_discrete}
 use Rattle.lists.specs.Listed.{listed}
 use Rattle.algebra.specs.Pick.{pick}
@@ -38,9 +38,7 @@ use Rattle.document.specs.declared.Numbers.{Numbers}
 use Rattle.document.specs.declared.Profile.{Profile}
 use Rattle.document.specs.declared.Place.{Place}
 use Rattle.document.specs.declared.Refusal.TheVariants.{OutOfRange, BufferLength, Ambiguous}
-use Rattle.document.specs.declared.Answer.{Answer}
-use Rattle.document.specs.declared.Answer.TheVariants.{Done, Refused}
-use Rattle.document.specs.Refusals.{Test, tried}
+use Rattle.document.specs.Refusals.{Test, tried, Answer}
 use Rattle.document.specs.Profile.{on_accepted}
 use Rattle.document.specs.Places.{place}
 use Rattle.document.specs.ByteField.{bytes, Byte, byte, number}
@@ -117,7 +115,7 @@ read_tests p nodes x y =
     ∷ []
 
 unfoldable pub read_with : Profile → List ℕ → List ℕ → List ℕ → Answer × List ℕ
-read_with p nodes x y = tried (read_tests p nodes x y) (λ r. (Refused r, y)) (Done 0, data_from p nodes x)
+read_with p nodes x y = tried (read_tests p nodes x y) (λ r. (Err r, y)) (Ok 0, data_from p nodes x)
 
 unfoldable pub read_of : Numbers → List ℕ → List ℕ → List ℕ → Answer × List ℕ
-read_of p nodes x y = on_accepted p (λ r. (Refused r, y)) (λ p. read_with p nodes x y)
+read_of p nodes x y = on_accepted p (λ r. (Err r, y)) (λ p. read_with p nodes x y)

@@ -15,7 +15,7 @@
 -- Nothing in this file has to be believed. position_of, given_at, rebuilt_over and first_strip only compute, the column by
 -- the algebra's rebuilt_at: demand 3 (demands/specs/Rebuild.antt) says that it is the one which every encoded array with
 -- the bundle's strips has. What the tests come to is said line by line there too.
-use Rattle.std.specs.Prelude.{not, cond, List, [], ◌∷◌, ℕ, suc, ◌+◌, ◌*◌, eqb, ltb, length, get_or}
+use Rattle.std.specs.Prelude.{not, cond, List, [], ◌∷◌, ℕ, suc, ◌+◌, ◌*◌, eqb, ltb, length, get_or, Ok, Err}
 use Rattle.algebra.specs.Rebuild.{rebuilt_at}
 use Rattle.document.specs.declared.Numbers.{Numbers}
 use Rattle.document.specs.declared.Profile.{Profile}
@@ -23,9 +23,7 @@ use Rattle.document.specs.declared.Node.{Node}
 use Rattle.document.specs.declared.Place.{Place}
 use Rattle.document.specs.declared.Recording.{Recording}
 use Rattle.document.specs.declared.Refusal.TheVariants.{OutOfRange, BufferLength}
-use Rattle.document.specs.declared.Answer.{Answer}
-use Rattle.document.specs.declared.Answer.TheVariants.{Done, Refused}
-use Rattle.document.specs.Refusals.{Test, tried}
+use Rattle.document.specs.Refusals.{Test, tried, Answer}
 use Rattle.document.specs.Profile.{on_accepted}
 use Rattle.document.specs.Places.{place, same_place}
 use Rattle.document.specs.ByteField.{bytes, Byte, byte}
@@ -67,8 +65,8 @@ first_strip p = head_length p lost_content_length + strip_offset
 -- 'The rebuilt column is the AS bytes that a rebuild not refused leaves in the buffer lent for writing.'
 unfoldable pub rebuild_with : Profile → Node → Recording → List ℕ → List ℕ → Answer × List ℕ
 rebuild_with p f r b y =
-    tried (rebuild_tests p f r b y) (λ refusal. (Refused refusal, y))
-    (Done 0, rebuilt_of p f b (first_strip p) (strip_field_length p.s))
+    tried (rebuild_tests p f r b y) (λ refusal. (Err refusal, y))
+    (Ok 0, rebuilt_of p f b (first_strip p) (strip_field_length p.s))
 
 unfoldable pub rebuild_of : Numbers → ℕ → Recording → List ℕ → List ℕ → Answer × List ℕ
-rebuild_of p f r b y = on_accepted p (λ refusal. (Refused refusal, y)) (λ p. rebuild_with p (record { 0 = f }) r b y)
+rebuild_of p f r b y = on_accepted p (λ refusal. (Err refusal, y)) (λ p. rebuild_with p (record { 0 = f }) r b y)

@@ -2,6 +2,7 @@
 --
 -- number_of r           : the documents' number of the refusal r
 -- index_of r            : the index that comes with it: the strip's for 8 and 9, 0 for the others
+-- Answer                : what a call answers: `Ok v`, done, with its value, or `Err r`, refused
 -- answer_number answer  : 0 on success, otherwise the refusal's number
 -- answer_value answer   : the value on success, otherwise the index
 -- Test                 : a refusal, and whether its condition holds
@@ -10,7 +11,7 @@
 --
 -- The lists of tests in the files of the calls compute. What is to be believed of a call are the sentences that they
 -- are shown to decide: demands/specs.
-use Rattle.std.specs.Prelude.{◌≡◌, ◌↔◌, Bool, true, false, List, [], ◌∷◌, ℕ}
+use Rattle.std.specs.Prelude.{◌≡◌, ◌↔◌, Bool, true, false, List, [], ◌∷◌, ℕ, Result, Ok, Err}
 use Rattle.document.specs.declared.Refusal.{Refusal}
 use Rattle.document.specs.declared.Refusal.TheVariants.{
   Shape,
@@ -25,8 +26,6 @@ use Rattle.document.specs.declared.Refusal.TheVariants.{
   Stale,
   Ambiguous,
 }
-use Rattle.document.specs.declared.Answer.{Answer}
-use Rattle.document.specs.declared.Answer.TheVariants.{Done, Refused}
 
 -- The first column of the table; K6: 'an edition other than 1 or 2 is 13, tried after 3'.
 unfoldable pub number_of : Refusal → ℕ
@@ -56,14 +55,18 @@ index_of (Misplaced i) = i
 index_of (Stale i) = i
 index_of Ambiguous = 0
 
+-- What a call answers: done, with its value, or refused.
+abbrev pub Answer : Type 0
+Answer = Result ℕ Refusal
+
 -- 'On success the answer is 0'
 unfoldable pub answer_number : Answer → ℕ
-answer_number (Done v) = 0
-answer_number (Refused r) = number_of r
+answer_number (Ok v) = 0
+answer_number (Err r) = number_of r
 
 unfoldable pub answer_value : Answer → ℕ
-answer_value (Done v) = v
-answer_value (Refused r) = index_of r
+answer_value (Ok v) = v
+answer_value (Err r) = index_of r
 
 -- A refusal and whether its condition holds: a line of the table for one call.
 pub record Test : Type 0 where

@@ -16,16 +16,15 @@
 -- looked_in s                 : the number of sets looked at; 0 where it is refused
 --
 -- From `ksets`: sets n k is the number of sets of k of n nodes, set_at 0 n k pos the set at a position.
-use Rattle.std.specs.Prelude.{Bool, not, cond, List, [], ◌∷◌, ℕ, zero, suc, ◌+◌, ◌-◌, min, eqb, ltb, length}
+use Rattle.std.specs.Prelude.{Bool, not, cond, List, [], ◌∷◌, ℕ, zero, suc, ◌+◌, ◌-◌, min, eqb, ltb, length, Result, Ok, Err}
 use Rattle.ksets.specs.Sets.{sets, set_at}
 use Rattle.document.specs.declared.Numbers.{Numbers}
 use Rattle.document.specs.declared.Profile.{Profile}
+use Rattle.document.specs.declared.Refusal.{Refusal}
 use Rattle.document.specs.declared.Refusal.TheVariants.{OutOfRange, BufferLength}
-use Rattle.document.specs.declared.Answer as answer
-use Rattle.document.specs.declared.Answer.TheVariants as answers
 use Rattle.document.specs.declared.Surveyed.{Surveyed}
-use Rattle.document.specs.declared.Surveyed.TheVariants.{Failing, Done, Open, Refused}
-use Rattle.document.specs.Refusals.{Test, tried}
+use Rattle.document.specs.declared.Surveyed.TheVariants.{Failing, Done, Open}
+use Rattle.document.specs.Refusals.{Answer, Test, tried}
 use Rattle.document.specs.Profile.{on_accepted}
 use Rattle.document.specs.Reading.{ambiguous}
 
@@ -51,12 +50,12 @@ module _ (p : Profile) where
   -- open. The set goes to a lent buffer of k bytes, which stays as it was in the other two. With it goes the number of
   -- sets looked at: up to and with the first failing one, if it is among the first B from the start, else the smaller
   -- of B and what was left. Without a failing set among those it is done if none is left after that, otherwise open.'
-  unfoldable pub result_of : ℕ → ℕ → List ℕ → Surveyed × List ℕ
+  unfoldable pub result_of : ℕ → ℕ → List ℕ → Result Surveyed Refusal × List ℕ
   result_of start most x =
       let looked : ℕ = looked_at start most in
       let found : ℕ = found_from start most in
-      cond (ltb found (start + looked)) (Failing found (found - start + 1), set_at 0 n k found)
-      (cond (eqb (start + looked) (sets n k)) (Done looked, x) (Open looked, x))
+      cond (ltb found (start + looked)) (Ok (Failing found (found - start + 1)), set_at 0 n k found)
+      (cond (eqb (start + looked) (sets n k)) (Ok (Done looked), x) (Ok (Open looked), x))
 
 -- The refusals of a survey past those of a profile: 4 for a 'survey start above the number of sets', 5 for a set not of
 -- k bytes.
@@ -66,34 +65,34 @@ survey_tests p start x =
     ∷ record { refusal = BufferLength; holds = not (eqb (length x) p.k) }
     ∷ []
 
-unfoldable pub survey_with : Profile → ℕ → ℕ → List ℕ → Surveyed × List ℕ
-survey_with p start most x = tried (survey_tests p start x) (λ r. (Refused r, x)) (result_of p start most x)
+unfoldable pub survey_with : Profile → ℕ → ℕ → List ℕ → Result Surveyed Refusal × List ℕ
+survey_with p start most x = tried (survey_tests p start x) (λ r. (Err r, x)) (result_of p start most x)
 
-unfoldable pub survey_of : Numbers → ℕ → ℕ → List ℕ → Surveyed × List ℕ
-survey_of p start most x = on_accepted p (λ r. (Refused r, x)) (λ p. survey_with p start most x)
+unfoldable pub survey_of : Numbers → ℕ → ℕ → List ℕ → Result Surveyed Refusal × List ℕ
+survey_of p start most x = on_accepted p (λ r. (Err r, x)) (λ p. survey_with p start most x)
 
 -- 'On success the answer is 0': what a survey has in common with every other call.
-unfoldable pub survey_answer : Surveyed → answer.Answer
-survey_answer (Failing position looked) = answers.Done looked
-survey_answer (Done looked) = answers.Done looked
-survey_answer (Open looked) = answers.Done looked
-survey_answer (Refused r) = answers.Refused r
+unfoldable pub survey_answer : Result Surveyed Refusal → Answer
+survey_answer (Ok (Failing position looked)) = Ok looked
+survey_answer (Ok (Done looked)) = Ok looked
+survey_answer (Ok (Open looked)) = Ok looked
+survey_answer (Err r) = Err r
 
 -- 'with .. the outcome and count described above for a survey'. No outcome is 0, so that none is taken for a refusal's.
-unfoldable pub outcome_number : Surveyed → ℕ
-outcome_number (Failing position looked) = 1
-outcome_number (Done looked) = 2
-outcome_number (Open looked) = 3
-outcome_number (Refused r) = 0
+unfoldable pub outcome_number : Result Surveyed Refusal → ℕ
+outcome_number (Ok (Failing position looked)) = 1
+outcome_number (Ok (Done looked)) = 2
+outcome_number (Ok (Open looked)) = 3
+outcome_number (Err r) = 0
 
-unfoldable pub failing_position : Surveyed → ℕ
-failing_position (Failing position looked) = position
-failing_position (Done looked) = 0
-failing_position (Open looked) = 0
-failing_position (Refused r) = 0
+unfoldable pub failing_position : Result Surveyed Refusal → ℕ
+failing_position (Ok (Failing position looked)) = position
+failing_position (Ok (Done looked)) = 0
+failing_position (Ok (Open looked)) = 0
+failing_position (Err r) = 0
 
-unfoldable pub looked_in : Surveyed → ℕ
-looked_in (Failing position looked) = looked
-looked_in (Done looked) = looked
-looked_in (Open looked) = looked
-looked_in (Refused r) = 0
+unfoldable pub looked_in : Result Surveyed Refusal → ℕ
+looked_in (Ok (Failing position looked)) = looked
+looked_in (Ok (Done looked)) = looked
+looked_in (Ok (Open looked)) = looked
+looked_in (Err r) = 0

@@ -77,7 +77,8 @@ impl Recording {
     }
 }
 
-// Why a call is refused, in the order in which it is tried; `number_of` in specs/ gives the number.
+// Why a call is refused, in the order in which it is tried; `number_of` in specs/ gives the number. What a call answers
+// is a `Result`: the value that the documents give it on success, or the refusal.
 #[derive(Clone, Copy)]
 pub enum Refusal {
     // 1: n, k or A not accepted
@@ -136,14 +137,7 @@ impl Refusal {
     }
 }
 
-// The answer of a call: done, with its value, or refused.
-#[derive(Clone, Copy)]
-pub enum Answer {
-    Done(usize),
-    Refused(Refusal),
-}
-
-// The answer of a survey, with the number of sets looked at.
+// What a survey that is not refused finds, with the number of sets looked at.
 #[derive(Clone, Copy)]
 pub enum Surveyed {
     // The first failing set: its position, counted from the first set of all, and the number.
@@ -152,14 +146,6 @@ pub enum Surveyed {
     Done(usize),
     // None of them fails, and some are left.
     Open(usize),
-    Refused(Refusal),
-}
-
-// The outcome of looking at a profile's numbers.
-#[derive(Clone, Copy)]
-pub enum Checked {
-    Passed(Profile),
-    Rejected(Refusal),
 }
 
 // Whether n, k and A are accepted together.
@@ -215,30 +201,30 @@ impl Profile {
     pub const LAST_EDITION: usize = 2;
 
     // The profile with these numbers, or the first refusal that applies.
-    pub fn new(p: Numbers) -> Checked
+    pub fn new(p: Numbers) -> Result<Profile, Refusal>
         ensures { result ≡ checked_of p }
     {
         let t = p.t;
         let s = p.s;
         if !accepts_shape(p.n, p.k, p.a) {
-            return Checked::Rejected(Refusal::Shape);
+            return Err(Refusal::Shape);
         }
         if t < Profile::MIN_CONSTANT {
-            return Checked::Rejected(Refusal::Constant);
+            return Err(Refusal::Constant);
         }
         if Profile::MAX_CONSTANT < t {
-            return Checked::Rejected(Refusal::Constant);
+            return Err(Refusal::Constant);
         }
         if s < 1 {
-            return Checked::Rejected(Refusal::StripLength);
+            return Err(Refusal::StripLength);
         }
         if Profile::MAX_STRIP < s {
-            return Checked::Rejected(Refusal::StripLength);
+            return Err(Refusal::StripLength);
         }
         if !accepts_edition(p.edition) {
-            return Checked::Rejected(Refusal::Edition);
+            return Err(Refusal::Edition);
         }
-        Checked::Passed(Profile {
+        Ok(Profile {
             n: p.n,
             k: p.k,
             a: p.a,

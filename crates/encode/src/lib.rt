@@ -6,7 +6,7 @@ ghost use Rattle.document.specs.Profile.{Accepted};
 ghost use Rattle.document.specs.Encoding.{base_at, column_of, plain, encode_with, encode_of};
 ghost use Rattle.coefficients.specs.Data.{data_denominators};
 
-use document::{Answer, Checked, Numbers, Profile, Refusal};
+use document::{Numbers, Profile, Refusal};
 
 // The column of a parity node: the data columns, each times its weight, added up. Every row has the same weights, so a
 // whole column is one strip to the row code.
@@ -45,28 +45,25 @@ fn put_rows(array: &mut [u8], p: Profile, input: &[u8])
 }
 
 // Encodes with an accepted profile.
-fn encode_with(p: Profile, input: &[u8], array: &mut [u8]) -> Answer
+fn encode_with(p: Profile, input: &[u8], array: &mut [u8]) -> Result<usize, Refusal>
     requires { Accepted p }
     ensures { (result, array.new) ≡ encode_with p input.now array.old }
 {
     if input.len() != p.k * p.a * p.s {
-        return Answer::Refused(Refusal::BufferLength);
+        return Err(Refusal::BufferLength);
     }
     if array.len() != p.n * p.a * p.s {
-        return Answer::Refused(Refusal::BufferLength);
+        return Err(Refusal::BufferLength);
     }
     put_rows(array, p, input);
     coupling::couple(array, p);
-    Answer::Done(0)
+    Ok(0)
 }
 
 // Encodes the data into the array. After a refusal the array is what it was.
-pub fn encode(p: Numbers, input: &[u8], array: &mut [u8]) -> Answer
+pub fn encode(p: Numbers, input: &[u8], array: &mut [u8]) -> Result<usize, Refusal>
     ensures { (result, array.new) ≡ encode_of p input.now array.old }
 {
-    let checked = Profile::new(p);
-    match checked {
-        Checked::Rejected(r) => Answer::Refused(r),
-        Checked::Passed(profile) => encode_with(profile, input, array),
-    }
+    let profile = Profile::new(p)?;
+    encode_with(profile, input, array)
 }

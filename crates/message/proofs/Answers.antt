@@ -1,4 +1,5 @@
 -- The answer of a reader, by what is found on the way.
+use Rattle.std.specs.Prelude.{Result, Ok, Err}
 use mathlib.Core.Path.{◌≡◌, sym, ap, ◌∙◌}
 use mathlib.Core.Bool.{Bool, true, false, not}
 use mathlib.Core.List.{List, [], ◌++◌, append-nil}
@@ -9,9 +10,8 @@ use Rattle.lists.specs.Listed.{listed}
 use Rattle.document.specs.declared.Profile.{Profile}
 use Rattle.document.specs.declared.Place.{Place}
 use Rattle.document.specs.declared.Recording.{Recording}
+use Rattle.document.specs.declared.Refusal.{Refusal}
 use Rattle.document.specs.declared.Refusal.TheVariants.{Form, Head, Misplaced, Stale}
-use Rattle.document.specs.declared.Answer.{Answer}
-use Rattle.document.specs.declared.Answer.TheVariants.{Done, Refused}
 use Rattle.document.specs.Refusals.{Test, tried}
 use Rattle.document.specs.Message.{formed, headed, message_tests}
 use Rattle.document.proofs.Tried.{tried_holds, tried_not, tried_first, tried_none}
@@ -26,8 +26,8 @@ module _ (p : Profile) (content : List ℕ) (r : Recording) (places b : List ℕ
   abbrev count : ℕ
   count = length places / 2
 
-  abbrev answer : Answer
-  answer = tried (message_tests p content r qs b) Refused (Done 0)
+  abbrev answer : Result Unit Refusal
+  answer = tried (message_tests p content r qs b) Err (Ok tt)
 
   -- the tests of the places and of the recordings, and their lines
   abbrev placed_at : ℕ → Bool
@@ -42,50 +42,50 @@ module _ (p : Profile) (content : List ℕ) (r : Recording) (places b : List ℕ
   abbrev stale_line : ℕ → Test
   stale_line i = record { refusal = Stale i; holds = not (fresh_at i) }
 
-  pub form_refused : formed p (length content) count b ≡ false → Refused Form ≡ answer
+  pub form_refused : formed p (length content) count b ≡ false → Err Form ≡ answer
   unfolding message_tests
   form_refused e =
       let not_formed : formed p (length content) (length qs) b ≡ false = rw places_length e in
-      sym (tried_holds Refused _ _ _ (ap not not_formed))
+      sym (tried_holds Err _ _ _ (ap not not_formed))
 
   module _ (form : formed p (length content) count b ≡ true) where
     past_form : formed p (length content) (length qs) b ≡ true
     past_form = rw places_length form
 
-    pub head_refused : headed p content b ≡ false → Refused Head ≡ answer
+    pub head_refused : headed p content b ≡ false → Err Head ≡ answer
     unfolding message_tests
-    head_refused e = sym (tried_not Refused _ _ _ (ap not past_form) ∙ tried_holds Refused _ _ _ (ap not e))
+    head_refused e = sym (tried_not Err _ _ _ (ap not past_form) ∙ tried_holds Err _ _ _ (ap not e))
 
     module _ (head : headed p content b ≡ true) where
-      past_head : answer ≡ tried (listed count misplaced_line ++ listed count stale_line) Refused (Done 0)
+      past_head : answer ≡ tried (listed count misplaced_line ++ listed count stale_line) Err (Ok tt)
       unfolding message_tests
       past_head =
-          tried_not Refused _ _ _ (ap not past_form) ∙ tried_not Refused _ _ _ (ap not head)
-          ∙ ap (λ (i : ℕ). tried (listed i misplaced_line ++ listed i stale_line) Refused (Done 0)) (places_length places)
+          tried_not Err _ _ _ (ap not past_form) ∙ tried_not Err _ _ _ (ap not head)
+          ∙ ap (λ (i : ℕ). tried (listed i misplaced_line ++ listed i stale_line) Err (Ok tt)) (places_length places)
 
-      pub place_refused : {i : ℕ} → FirstNot placed_at count i → i < count → Refused (Misplaced i) ≡ answer
+      pub place_refused : {i : ℕ} → FirstNot placed_at count i → i < count → Err (Misplaced i) ≡ answer
       place_refused {i} first l =
           sym (past_head
-          ∙ tried_first Refused count misplaced_line (listed count stale_line) (Done 0) i l
+          ∙ tried_first Err count misplaced_line (listed count stale_line) (Ok tt) i l
           (λ e h. ap not (first.before e h)) (ap not (first.here l)))
 
       -- no strip is misplaced
       module _ {j : ℕ} (placed : FirstNot placed_at count j) (none : count ≤ j) where
-        past_places : answer ≡ tried (listed count stale_line ++ []) Refused (Done 0)
+        past_places : answer ≡ tried (listed count stale_line ++ []) Err (Ok tt)
         past_places =
             past_head
-            ∙ tried_none Refused count misplaced_line (listed count stale_line) (Done 0)
+            ∙ tried_none Err count misplaced_line (listed count stale_line) (Ok tt)
             (λ e h. ap not (placed.before e (omega arith)))
-            ∙ ap (λ (l : List Test). tried l Refused (Done 0)) (sym (append-nil (listed count stale_line)))
+            ∙ ap (λ (l : List Test). tried l Err (Ok tt)) (sym (append-nil (listed count stale_line)))
 
-        pub stale_refused : {i : ℕ} → FirstNot fresh_at count i → i < count → Refused (Stale i) ≡ answer
+        pub stale_refused : {i : ℕ} → FirstNot fresh_at count i → i < count → Err (Stale i) ≡ answer
         stale_refused {i} first l =
             sym (past_places
-            ∙ tried_first Refused count stale_line [] (Done 0) i l (λ e h. ap not (first.before e h))
+            ∙ tried_first Err count stale_line [] (Ok tt) i l (λ e h. ap not (first.before e h))
             (ap not (first.here l)))
 
-        pub passed : {i : ℕ} → FirstNot fresh_at count i → count ≤ i → Done 0 ≡ answer
+        pub passed : {i : ℕ} → FirstNot fresh_at count i → count ≤ i → Ok tt ≡ answer
         unfolding tried
         passed first l =
             sym (past_places
-            ∙ tried_none Refused count stale_line [] (Done 0) (λ e h. ap not (first.before e (omega arith))))
+            ∙ tried_none Err count stale_line [] (Ok tt) (λ e h. ap not (first.before e (omega arith))))

@@ -1,9 +1,8 @@
 // A message compared with what is wanted: the refusals 6 to 9. The tests of one field 03 take the offset where it
 // starts.
-ghost use Rattle.std.specs.Prelude.{◌≡◌, ◌+◌, ◌/◌, ◌<◌, ◌≤◌, length};
+ghost use Rattle.std.specs.Prelude.{◌≡◌, ◌+◌, ◌/◌, ◌<◌, ◌≤◌, length, Ok, Err};
 ghost use Rattle.lists.specs.Listed.{all};
 ghost use Rattle.fields.specs.Fields.{opening_length};
-ghost use Rattle.document.specs.declared.Answer.TheVariants.{Done, Refused};
 ghost use Rattle.document.specs.Refusals.{tried};
 ghost use Rattle.document.specs.Profile.{Accepted};
 ghost use Rattle.document.specs.Message;
@@ -12,7 +11,7 @@ ghost use Rattle.message.specs.PlaceBytes.{places_from, Bounded};
 ghost use Rattle.message.specs.Reader.{FieldsFit, opened_in, placed_in, fresh_in, FirstNot};
 
 use crate::{PLACED, place_at, strip_field};
-use document::{Answer, Place, Profile, Recording, Refusal};
+use document::{Place, Profile, Recording, Refusal};
 use fields::OPENING;
 
 // Whether the field 03 that starts at `at` has its tag and its length.
@@ -120,28 +119,34 @@ fn first_stale(p: Profile, m: usize, r: Recording, b: &[u8], count: usize) -> us
     count
 }
 
-// The answer of reading a message, with nothing done yet: 6, 7, then 8 over all strips, then 9 over all strips.
-pub fn check(p: Profile, content: &[u8], r: Recording, places: &[u8], b: &[u8]) -> Answer
+// What refuses a message that is read: 6, 7, then 8 over all strips, then 9 over all strips.
+pub fn check(
+    p: Profile,
+    content: &[u8],
+    r: Recording,
+    places: &[u8],
+    b: &[u8],
+) -> Result<(), Refusal>
     requires { Accepted p × Bounded (length content.now) (length places.now / 2) }
     ensures { result
         ≡ tried (message_tests p content.now r (places_from places.now) b.now)
-        Refused (Done 0) }
+        Err (Ok tt) }
 {
     let m = content.len();
     let count = places.len() / 2;
     if !formed(p, m, count, b) {
-        return Answer::Refused(Refusal::Form);
+        return Err(Refusal::Form);
     }
     if !headed(p, content, b) {
-        return Answer::Refused(Refusal::Head);
+        return Err(Refusal::Head);
     }
     let misplaced = first_misplaced(p, m, places, b);
     if misplaced < count {
-        return Answer::Refused(Refusal::Misplaced(misplaced));
+        return Err(Refusal::Misplaced(misplaced));
     }
     let stale = first_stale(p, m, r, b, count);
     if stale < count {
-        return Answer::Refused(Refusal::Stale(stale));
+        return Err(Refusal::Stale(stale));
     }
-    Answer::Done(0)
+    Ok(())
 }

@@ -8,7 +8,7 @@ ghost use Rattle.document.specs.Profile.{Accepted, max_nodes};
 ghost use Rattle.document.specs.Plan.{walk_start, walk_of, nodes_over, planned, price_of, plan_bytes, plan_with, plan_of};
 ghost use Rattle.plan.specs.Steps.{in_step, places_at, places_of};
 
-use document::{Answer, Checked, Node, Numbers, Place, Profile, Refusal, Row};
+use document::{Node, Numbers, Place, Profile, Refusal, Row};
 
 // The three steps of document 01, by the nodes that they go over: the others of the lost node's group; those of other
 // groups at its local column; those of other groups at other local columns.
@@ -161,28 +161,25 @@ pub fn price(p: Profile) -> usize
 }
 
 // Plans with an accepted profile.
-fn plan_with(p: Profile, f: Node, places: &mut [u8]) -> Answer
+fn plan_with(p: Profile, f: Node, places: &mut [u8]) -> Result<usize, Refusal>
     requires { Accepted p }
     ensures { (result, places.new) ≡ plan_with p f places.old }
 {
     if f.0 >= p.n {
-        return Answer::Refused(Refusal::OutOfRange);
+        return Err(Refusal::OutOfRange);
     }
     let count = price(p);
     if places.len() < 2 * count {
-        return Answer::Refused(Refusal::BufferLength);
+        return Err(Refusal::BufferLength);
     }
     put_plan(places, p, f);
-    Answer::Done(count)
+    Ok(count)
 }
 
 // Writes the plan for a lost node, two bytes a place; bytes past it stay. After a refusal all bytes are what they were.
-pub fn plan(p: Numbers, lost: usize, places: &mut [u8]) -> Answer
+pub fn plan(p: Numbers, lost: usize, places: &mut [u8]) -> Result<usize, Refusal>
     ensures { (result, places.new) ≡ plan_of p lost places.old }
 {
-    let checked = Profile::new(p);
-    match checked {
-        Checked::Rejected(r) => Answer::Refused(r),
-        Checked::Passed(profile) => plan_with(profile, Node(lost), places),
-    }
+    let profile = Profile::new(p)?;
+    plan_with(profile, Node(lost), places)
 }

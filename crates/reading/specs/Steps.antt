@@ -16,7 +16,8 @@
 -- data_by p nodes lines x            : the data, by the lines of the inverse of the system
 -- reading_answer p nodes x y         : what reading back in due form answers and leaves in y, the buffer lent for the
 --                                     data
-use Rattle.std.specs.Prelude.{cond, List, ℕ, zero, suc, ◌*◌, ◌/◌, ◌%◌, length, get_or, take}
+use Rattle.document.specs.Refusals.{Answer}
+use Rattle.std.specs.Prelude.{cond, List, ℕ, zero, suc, ◌*◌, ◌/◌, ◌%◌, length, get_or, take, Ok, Err}
 use Rattle.lists.specs.Listed.{listed}
 use Rattle.algebra.specs.HalfPairs.{known}
 use Rattle.strips.specs.Strips.{combination_of, strip_at, added_scaled}
@@ -24,8 +25,6 @@ use Rattle.square.specs.declared.Line.{Line}
 use Rattle.square.specs.Steps.{line_at}
 use Rattle.document.specs.declared.Profile.{Profile}
 use Rattle.document.specs.declared.Refusal.TheVariants.{Ambiguous}
-use Rattle.document.specs.declared.Answer.{Answer}
-use Rattle.document.specs.declared.Answer.TheVariants.{Done, Refused}
 use Rattle.document.specs.ByteField.{bytes, byte, number}
 use Rattle.document.specs.Encoding.{factor_at}
 use Rattle.document.specs.Reading.{ambiguous, data_from}
@@ -78,4 +77,4 @@ module _ (p : Profile) (nodes : List ℕ) where
       base_columns (completed lines (known_partner_strips y) (length (half_pairs p nodes)) y)
 
   unfoldable pub reading_answer : List ℕ → List ℕ → Answer × List ℕ
-  reading_answer x y = cond (ambiguous p nodes) (Refused Ambiguous, y) (Done 0, data_from p nodes x)
+  reading_answer x y = cond (ambiguous p nodes) (Err Ambiguous, y) (Ok 0, data_from p nodes x)

@@ -12,7 +12,7 @@ ghost use Rattle.reading.specs.Steps.{known_strip, known_strips};
 ghost use Rattle.reading.specs.Steps.{known_partner_strip, known_partner_strips};
 ghost use Rattle.reading.specs.Steps.{completed_strip, completed, base_column, base_columns, data_by, reading_answer};
 
-use document::{Answer, Checked, Numbers, Profile, Refusal};
+use document::{Numbers, Profile, Refusal};
 use square::{Line, SIDE, Verdict};
 
 // Whether the list is k strictly rising numbers below n.
@@ -268,7 +268,7 @@ fn put_data(
 }
 
 // Reads back from nodes and columns in due form. Whether it is refused is known before a byte is written.
-fn read_from(p: Profile, nodes: &[u8], columns: &[u8], output: &mut [u8]) -> Answer
+fn read_from(p: Profile, nodes: &[u8], columns: &[u8], output: &mut [u8]) -> Result<usize, Refusal>
     requires accepted { Accepted p × Rising p.n p.k nodes.now }
     requires columns_len { (length columns.now ≡ p.k * p.a * p.s) × (length output.old ≡ p.k * p.a * p.s) }
     ensures { (result, output.new)
@@ -280,7 +280,7 @@ fn read_from(p: Profile, nodes: &[u8], columns: &[u8], output: &mut [u8]) -> Ans
     let e = square::invert(s, count, count);
     let verdict = e.verdict;
     match verdict {
-        Verdict::Singular(_) => Answer::Refused(Refusal::Ambiguous),
+        Verdict::Singular(_) => Err(Refusal::Ambiguous),
         Verdict::Regular => {
             let positions = h.positions;
             let table = h.table;
@@ -296,39 +296,41 @@ fn read_from(p: Profile, nodes: &[u8], columns: &[u8], output: &mut [u8]) -> Ans
                 columns,
                 lines,
             );
-            Answer::Done(0)
+            Ok(0)
         }
     }
 }
 
 // Reads back with an accepted profile.
-fn read_with(p: Profile, nodes: &[u8], columns: &[u8], output: &mut [u8]) -> Answer
+fn read_with(p: Profile, nodes: &[u8], columns: &[u8], output: &mut [u8]) -> Result<usize, Refusal>
     requires { Accepted p }
     ensures { (result, output.new)
         ≡ read_with p nodes.now columns.now output.old }
 {
     if !accepts_list(nodes, p.n, p.k) {
-        return Answer::Refused(Refusal::OutOfRange);
+        return Err(Refusal::OutOfRange);
     }
     let size = p.k * p.a * p.s;
     if columns.len() != size {
-        return Answer::Refused(Refusal::BufferLength);
+        return Err(Refusal::BufferLength);
     }
     if output.len() != size {
-        return Answer::Refused(Refusal::BufferLength);
+        return Err(Refusal::BufferLength);
     }
     read_from(p, nodes, columns, output)
 }
 
 // Reads the data back from the columns of the named nodes, joined in list order. After a refusal the output is what it
 // was.
-pub fn read_back(p: Numbers, nodes: &[u8], columns: &[u8], output: &mut [u8]) -> Answer
+pub fn read_back(
+    p: Numbers,
+    nodes: &[u8],
+    columns: &[u8],
+    output: &mut [u8],
+) -> Result<usize, Refusal>
     ensures { (result, output.new)
         ≡ read_of p nodes.now columns.now output.old }
 {
-    let checked = Profile::new(p);
-    match checked {
-        Checked::Rejected(r) => Answer::Refused(r),
-        Checked::Passed(profile) => read_with(profile, nodes, columns, output),
-    }
+    let profile = Profile::new(p)?;
+    read_with(profile, nodes, columns, output)
 }

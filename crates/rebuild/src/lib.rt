@@ -15,7 +15,7 @@ ghost use Rattle.rebuild.specs.Rows.{member_at, determinants_of, own_scale_at, s
 ghost use Rattle.rebuild.specs.Rows.{coefficients_of, row_from};
 ghost use Rattle.rebuild.specs.Column.{row_of, rows_of, NodesOf};
 
-use document::{Answer, Checked, Node, Numbers, Profile, Recording, Refusal, Row};
+use document::{Node, Numbers, Profile, Recording, Refusal, Row};
 use plan::Step;
 
 // Folds the strips that are read at node j into one; they stand in the plan from place m on. Returns the place after.
@@ -287,35 +287,39 @@ pub fn rebuild_column(
 }
 
 // Rebuilds with an accepted profile, from the strips of a bundle that passes all tests.
-fn rebuild_with(p: Profile, f: Node, r: Recording, bundle: &[u8], column: &mut [u8]) -> Answer
+fn rebuild_with(
+    p: Profile,
+    f: Node,
+    r: Recording,
+    bundle: &[u8],
+    column: &mut [u8],
+) -> Result<usize, Refusal>
     requires { Accepted p }
     ensures { (result, column.new) ≡ rebuild_with p f r bundle.now column.old }
 {
     if f.0 >= p.n {
-        return Answer::Refused(Refusal::OutOfRange);
+        return Err(Refusal::OutOfRange);
     }
     if column.len() != p.a * p.s {
-        return Answer::Refused(Refusal::BufferLength);
+        return Err(Refusal::BufferLength);
     }
-    let answer = bundle::check(p, f, r, bundle);
-    match answer {
-        Answer::Refused(refusal) => Answer::Refused(refusal),
-        Answer::Done(_) => {
-            let first = bundle::first_strip(p);
-            let stride = message::strip_stride(p);
-            rebuild_column(column, bundle, first, stride, p, f);
-            Answer::Done(0)
-        }
-    }
+    bundle::check(p, f, r, bundle)?;
+    let first = bundle::first_strip(p);
+    let stride = message::strip_stride(p);
+    rebuild_column(column, bundle, first, stride, p, f);
+    Ok(0)
 }
 
 // Rebuilds the column of a lost node from a bundle. After a refusal all bytes are what they were.
-pub fn rebuild(p: Numbers, lost: usize, r: Recording, bundle: &[u8], column: &mut [u8]) -> Answer
+pub fn rebuild(
+    p: Numbers,
+    lost: usize,
+    r: Recording,
+    bundle: &[u8],
+    column: &mut [u8],
+) -> Result<usize, Refusal>
     ensures { (result, column.new) ≡ rebuild_of p lost r bundle.now column.old }
 {
-    let checked = Profile::new(p);
-    match checked {
-        Checked::Rejected(refusal) => Answer::Refused(refusal),
-        Checked::Passed(profile) => rebuild_with(profile, Node(lost), r, bundle, column),
-    }
+    let profile = Profile::new(p)?;
+    rebuild_with(profile, Node(lost), r, bundle, column)
 }

@@ -1,4 +1,5 @@
 -- What the function leaves, by the outcome of the rebuild.
+use Rattle.std.specs.Prelude.{Ok, Err}
 use mathlib.Core.Path.{◌≡◌, refl, sym, ap, subst, ◌∙◌}
 use mathlib.Core.List.{List, ◌++◌}
 use Prim.Native.Nat.{ℕ, ◌-◌, ◌*◌, ◌≤◌, ◌<◌, min}
@@ -12,9 +13,7 @@ use Rattle.lists.proofs.Lent.{front_wrote}
 use Rattle.document.specs.declared.Numbers.{Numbers}
 use Rattle.document.specs.declared.Refusal.{Refusal}
 use Rattle.document.specs.declared.Recording.{Recording}
-use Rattle.document.specs.declared.Answer.{Answer}
-use Rattle.document.specs.declared.Answer.TheVariants.{Done, Refused}
-use Rattle.document.specs.Refusals.{index_of, answer_value}
+use Rattle.document.specs.Refusals.{index_of, answer_value, Answer}
 use Rattle.document.specs.Profile.{max_rows, max_strip, profile_tests, profile_of, on_accepted}
 use Rattle.document.specs.Rebuild.{rebuild_tests, rebuild_with, rebuild_of}
 use Rattle.document.specs.Program.{
@@ -56,8 +55,8 @@ read_rebuilt input p y l r b = rw (l, r, b) refl
 
 -- a refused rebuild changes no byte
 abbrev Kept : List ℕ → Answer × List ℕ → Type 0
-Kept y (Done v, x) = Unit
-Kept y (Refused r, x) = x ≡ y
+Kept y (Ok v, x) = Unit
+Kept y (Err r, x) = x ≡ y
 
 rebuild_kept : (p : Numbers) (lost : ℕ) (r : Recording) (b y : List ℕ) → Kept y (rebuild_of p lost r b y)
 unfolding rebuild_of rebuild_with on_accepted
@@ -72,14 +71,14 @@ module _ (input : List ℕ) (p : Numbers) (same : p ≡ wanted_numbers input) (y
   output = program_answered input p same y lent (answer, x) e
 
   -- the lent part of d is given back with the column in it
-  pub column_answered : {v : ℕ} → answer ≡ Done v → (d : List ℕ) (room : ℕ) → length x ≡ room
+  pub column_answered : {v : ℕ} → answer ≡ Ok v → (d : List ℕ) (room : ℕ) → length x ≡ room
       → Wrote d 0 (program_of input) room (x ++ drop room d)
   unfolding output_of
   column_answered done d room size =
       wrote_same (sym (ap (λ (a : Answer). output_of (a, x)) done) ∙ output) (front_wrote d x size)
 
   -- the lent part of d is given back as it was, and the line is written over it
-  pub line_answered : {r : Refusal} → answer ≡ Refused r → (d : List ℕ) (room : ℕ) → y ≡ take room d
+  pub line_answered : {r : Refusal} → answer ≡ Err r → (d : List ℕ) (room : ℕ) → y ≡ take room d
       → {out : List ℕ} {n : ℕ} → Wrote (x ++ drop room d) 0 (refusal_line r) n out → Wrote d 0 (program_of input) n out
   unfolding output_of
   line_answered {r} refused d room part {out} {n} w =
@@ -91,7 +90,7 @@ module _ (input : List ℕ) (p : Numbers) (same : p ≡ wanted_numbers input) (y
       wrote_same (sym (ap (λ (a : Answer). output_of (a, x)) refused) ∙ output)
       (subst (λ (l : List ℕ). Wrote l 0 (refusal_line r) n out) whole w)
 
-  pub index_small : {r : Refusal} → answer ≡ Refused r → index_of r < 100
+  pub index_small : {r : Refusal} → answer ≡ Err r → index_of r < 100
   unfolding answer_value
   index_small {r} d =
       let value : answer_value answer ≡ index_of r = ap answer_value d in

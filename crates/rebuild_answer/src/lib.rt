@@ -10,7 +10,7 @@ ghost use Rattle.document.specs.Program.{byte_in, program_head, wanted_numbers, 
 ghost use Rattle.document.specs.Program.{decimal, refusal_line, program_of};
 ghost use Rattle.rebuild_answer.specs.Room.{longest_input};
 
-use document::{Answer, Numbers, Profile, Recording, Refusal};
+use document::{Numbers, Profile, Recording, Refusal};
 
 // The bytes before the bundle: n, k, A, t, S in two, wanted node, wanted scenario in four, wanted run in two.
 const WANTED: usize = 13;
@@ -109,7 +109,7 @@ fn put_line(out: &mut [u8], r: Refusal) -> usize
 }
 
 // Rebuilds from the bundle that follows the head.
-fn rebuild_input(input: &[u8], p: Numbers, column: &mut [u8]) -> Answer
+fn rebuild_input(input: &[u8], p: Numbers, column: &mut [u8]) -> Result<usize, Refusal>
     ensures { (result, column.new) ≡ rebuild_of p (wanted_node input.now)
         (wanted_recording input.now) (drop program_head input.now) column.old }
 {
@@ -126,10 +126,9 @@ fn put_answer(out: &mut [u8], input: &[u8]) -> usize
 {
     let p = numbers(input);
     let room = lists::least(p.a * p.s, COLUMN);
-    let outcome = rebuild_input(input, p, &mut out[..room]);
-    match outcome {
-        Answer::Done(_) => room,
-        Answer::Refused(r) => put_line(out, r),
+    match rebuild_input(input, p, &mut out[..room]) {
+        Ok(_) => room,
+        Err(r) => put_line(out, r),
     }
 }
 

@@ -13,7 +13,7 @@
 --                       sets looked at, bytes
 -- marked              : the cases
 -- shown               : what the cases give is what document 01 says
-use Rattle.std.specs.Prelude.{◌≡◌, refl, List, [], ◌∷◌, ◌++◌, map, ℕ, take, drop, replicate}
+use Rattle.std.specs.Prelude.{Result, ◌≡◌, refl, List, [], ◌∷◌, ◌++◌, map, ℕ, take, drop, replicate}
 use Rattle.std.proofs.Math.Decide.{ℕ_discrete, dec_lt}
 use Rattle.lists.specs.Listed.{listed, patched, rising, along, all}
 use Rattle.lists.specs.Put.{slice, same}
@@ -28,9 +28,9 @@ use Rattle.square.specs.Steps.{filled, stepped, lifted, multiplier_at, pivot_in,
 use Rattle.square.specs.Elimination.{end_from}
 use Rattle.ksets.specs.Sets.{sets, set_at}
 use Rattle.document.specs.declared.Numbers.{Numbers}
+use Rattle.document.specs.declared.Refusal.{Refusal}
 use Rattle.document.specs.declared.Surveyed.{Surveyed}
-use Rattle.document.specs.declared.Answer.{Answer}
-use Rattle.document.specs.Refusals.{tried, number_of, index_of, answer_number, answer_value}
+use Rattle.document.specs.Refusals.{tried, number_of, index_of, answer_number, answer_value, Answer}
 use Rattle.algebra.specs.Coupling.{base, factor}
 use Rattle.algebra.specs.Rebuild.{row_symbol, other_at, rebuilt_at}
 use Rattle.document.specs.Places.{same_place}
@@ -157,7 +157,7 @@ rebuilt f fields = outcome (rebuild_of (profile 2) f (record { scenario = 7; run
 -- A survey of the profile with the coupling constant t.
 abbrev pub surveyed : ℕ → ℕ → ℕ → List ℕ
 surveyed t start B =
-    let o : Surveyed × List ℕ = survey_of (profile t) start B (lent 2) in
+    let o : Result Surveyed Refusal × List ℕ = survey_of (profile t) start B (lent 2) in
     answer_number (survey_answer o.0) ∷ outcome_number o.0 ∷ failing_position o.0 ∷ looked_in o.0 ∷ o.1
 
 -- M1 to M12, in document 01's order.

@@ -7,7 +7,7 @@
 
 ghost use Rattle.std.specs.Prelude.{◌≤◌, ◌<◌};
 
-use document::{Answer, Numbers, Recording, Refusal, Surveyed};
+use document::{Numbers, Recording, Refusal, Surveyed};
 use gf256::Inverted;
 use std::io;
 
@@ -90,7 +90,7 @@ fn small(edition: usize) -> Numbers {
 // Encodes data of (4,2,2) with strips of one byte into the array.
 fn encode_small(t: usize, input: &[u8], array: &mut [u8]) {
     let p = numbers(4, 2, 2, t, 1);
-    encode::encode(p, input, array);
+    let _ = encode::encode(p, input, array);
 }
 
 // M4: the array of 01 00 02 04 with t = 2.
@@ -114,7 +114,7 @@ fn zero_columns(rt: &impl Print) -> io::Result<()> {
 fn print_plan(rt: &impl Print, lost: usize) -> io::Result<()> {
     let p = numbers(4, 2, 2, 2, 1);
     let mut places = [0xFFu8; 8];
-    plan::plan(p, lost, &mut places);
+    let _ = plan::plan(p, lost, &mut places);
     print_places(rt, &places)
 }
 
@@ -124,7 +124,7 @@ fn cut_in(edition: usize, lost: usize, run: u16, bundle: &mut [u8]) {
     let mut array = [0u8; 8];
     encode_small(2, &input, &mut array);
     let p = small(edition);
-    bundle::write_bundle(p, lost, Recording { scenario: 7, run }, &array, bundle);
+    let _ = bundle::write_bundle(p, lost, Recording { scenario: 7, run }, &array, bundle);
 }
 
 fn cut_sample(lost: usize, run: u16, bundle: &mut [u8]) {
@@ -152,10 +152,9 @@ fn print_rebuilt_in(rt: &impl Print, edition: usize, lost: usize, bundle: &[u8])
         scenario: 7,
         run: 0,
     };
-    let answer = rebuild::rebuild(p, lost, r, bundle, &mut column);
-    match answer {
-        Answer::Done(_) => print_bytes(rt, &column),
-        Answer::Refused(refusal) => print_refusal(rt, refusal),
+    match rebuild::rebuild(p, lost, r, bundle, &mut column) {
+        Ok(_) => print_bytes(rt, &column),
+        Err(refusal) => print_refusal(rt, refusal),
     }
 }
 
@@ -176,10 +175,9 @@ fn print_reading(rt: &impl Print) -> io::Result<()> {
     let nodes = [0u8, 3];
     let columns = [0u8; 4];
     let mut output = [0xFFu8; 4];
-    let answer = reading::read_back(p, &nodes, &columns, &mut output);
-    match answer {
-        Answer::Done(_) => print_bytes(rt, &output),
-        Answer::Refused(r) => {
+    match reading::read_back(p, &nodes, &columns, &mut output) {
+        Ok(_) => print_bytes(rt, &output),
+        Err(r) => {
             print(rt, b" refused with")?;
             print_number(rt, r.number())
         }
@@ -195,17 +193,16 @@ fn print_looked(rt: &impl Print, outcome: &[u8], looked: usize) -> io::Result<()
 fn print_survey(rt: &impl Print, t: usize, start: usize, most: usize) -> io::Result<()> {
     let p = numbers(4, 2, 2, t, 1);
     let mut set = [0xFFu8; 2];
-    let surveyed = survey::survey(p, start, most, &mut set);
-    match surveyed {
-        Surveyed::Failing(position, looked) => {
+    match survey::survey(p, start, most, &mut set) {
+        Ok(Surveyed::Failing(position, looked)) => {
             print_looked(rt, b" failing at position ", position)?;
             print(rt, b", set")?;
             print_bytes(rt, &set)?;
             print_looked(rt, b", looked at ", looked)?;
         }
-        Surveyed::Done(looked) => print_looked(rt, b" done, ", looked)?,
-        Surveyed::Open(looked) => print_looked(rt, b" open, ", looked)?,
-        Surveyed::Refused(r) => print_refusal(rt, r)?,
+        Ok(Surveyed::Done(looked)) => print_looked(rt, b" done, ", looked)?,
+        Ok(Surveyed::Open(looked)) => print_looked(rt, b" open, ", looked)?,
+        Err(r) => print_refusal(rt, r)?,
     }
     print(rt, b"\n")
 }
@@ -277,7 +274,7 @@ fn print_walk(
     places: &mut [u8],
 ) -> io::Result<()> {
     print(rt, name)?;
-    plan::plan(p, lost, places);
+    let _ = plan::plan(p, lost, places);
     print_places(rt, places)?;
     print(rt, b"\n")
 }
@@ -327,13 +324,12 @@ fn print_price(rt: &impl Print, name: &[u8], n: usize, k: usize, a: usize) -> io
     let p = numbers(n, k, a, 2, 1);
     let mut places = [0u8; 2 * plan::MAX_PLACES];
     print(rt, name)?;
-    let answer = plan::plan(p, 0, &mut places);
-    match answer {
-        Answer::Done(v) => {
+    match plan::plan(p, 0, &mut places) {
+        Ok(v) => {
             print(rt, b" ")?;
             rt.print(v)?;
         }
-        Answer::Refused(_) => print(rt, b" refused")?,
+        Err(_) => print(rt, b" refused")?,
     }
     print(rt, b"\n")
 }
@@ -345,10 +341,9 @@ fn print_edge(rt: &impl Print, name: &[u8], p: Numbers, size: usize, room: usize
     let input = [0u8; 2052];
     let mut array = [0u8; 4104];
     print(rt, name)?;
-    let answer = encode::encode(p, &input[..size], &mut array[..room]);
-    match answer {
-        Answer::Done(_) => print(rt, b" passes")?,
-        Answer::Refused(r) => print_refusal(rt, r)?,
+    match encode::encode(p, &input[..size], &mut array[..room]) {
+        Ok(_) => print(rt, b" passes")?,
+        Err(r) => print_refusal(rt, r)?,
     }
     print(rt, b"\n")
 }

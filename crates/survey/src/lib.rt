@@ -8,7 +8,7 @@ ghost use Rattle.document.specs.Reading.{ambiguous};
 ghost use Rattle.document.specs.Survey.{result_of, survey_with, survey_of};
 ghost use Rattle.survey.specs.Steps.{Found};
 
-use document::{Checked, Numbers, Profile, Refusal, Surveyed};
+use document::{Numbers, Profile, Refusal, Surveyed};
 use square::Verdict;
 
 // Whether a set fails: whether the system of its half pairs is singular.
@@ -68,7 +68,13 @@ fn first_failing(p: Profile, set: &mut [u8], start: usize, end: usize) -> usize
 }
 
 // A survey that is not refused.
-fn survey_from(p: Profile, start: usize, most: usize, total: usize, set: &mut [u8]) -> Surveyed
+fn survey_from(
+    p: Profile,
+    start: usize,
+    most: usize,
+    total: usize,
+    set: &mut [u8],
+) -> Result<Surveyed, Refusal>
     requires { Accepted p × (total ≡ sets p.n p.k) × (start ≤ total) × (length set.old ≡ p.k) }
     ensures { (result, set.new) ≡ result_of p start most set.old }
 {
@@ -80,37 +86,34 @@ fn survey_from(p: Profile, start: usize, most: usize, total: usize, set: &mut [u
     if found < end {
         strips::copy(set, &current, 0);
         let passed = found - start;
-        return Surveyed::Failing(found, passed + 1);
+        return Ok(Surveyed::Failing(found, passed + 1));
     }
     if end == total {
-        return Surveyed::Done(looked);
+        return Ok(Surveyed::Done(looked));
     }
-    Surveyed::Open(looked)
+    Ok(Surveyed::Open(looked))
 }
 
 // Surveys with an accepted profile.
-fn survey_with(p: Profile, start: usize, most: usize, set: &mut [u8]) -> Surveyed
+fn survey_with(p: Profile, start: usize, most: usize, set: &mut [u8]) -> Result<Surveyed, Refusal>
     requires { Accepted p }
     ensures { (result, set.new) ≡ survey_with p start most set.old }
 {
     let total = ksets::count(p.n, p.k);
     if total < start {
-        return Surveyed::Refused(Refusal::OutOfRange);
+        return Err(Refusal::OutOfRange);
     }
     if set.len() != p.k {
-        return Surveyed::Refused(Refusal::BufferLength);
+        return Err(Refusal::BufferLength);
     }
     survey_from(p, start, most, total, set)
 }
 
 // Looks at the sets of k nodes from the position `start` on, at most `most` of them. The set is written where it fails,
 // and stays as it was otherwise.
-pub fn survey(p: Numbers, start: usize, most: usize, set: &mut [u8]) -> Surveyed
+pub fn survey(p: Numbers, start: usize, most: usize, set: &mut [u8]) -> Result<Surveyed, Refusal>
     ensures { (result, set.new) ≡ survey_of p start most set.old }
 {
-    let checked = Profile::new(p);
-    match checked {
-        Checked::Rejected(r) => Surveyed::Refused(r),
-        Checked::Passed(profile) => survey_with(profile, start, most, set),
-    }
+    let profile = Profile::new(p)?;
+    survey_with(profile, start, most, set)
 }

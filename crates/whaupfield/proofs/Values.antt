@@ -3,11 +3,11 @@ use mathlib.Core.Path.{◌≡◌, refl, ap}
 use Prim.Native.Nat.{ℕ, ◌^◌, ◌≤◌, ◌<◌}
 use native.Mathlib.Omega.{arith}
 use lib.Dec.{lit<}
-use Rattle.document.specs.declared.Answer.{Answer}
-use Rattle.document.specs.declared.Answer.TheVariants as answers
+use Rattle.std.specs.Prelude.{Result, Ok, Err}
+use Rattle.document.specs.declared.Refusal.{Refusal}
 use Rattle.document.specs.declared.Surveyed.{Surveyed}
-use Rattle.document.specs.declared.Surveyed.TheVariants.{Failing, Done, Open, Refused}
-use Rattle.document.specs.Refusals.{answer_number, answer_value}
+use Rattle.document.specs.declared.Surveyed.TheVariants.{Failing, Done, Open}
+use Rattle.document.specs.Refusals.{answer_number, answer_value, Answer}
 use Rattle.document.specs.Bundle.{longest_bundle}
 use Rattle.document.specs.Survey.{survey_answer, outcome_number, failing_position}
 use Rattle.document.proofs.Refusals.{number_bound}
@@ -35,22 +35,22 @@ survey_fits p start most x =
 -- ---- what was packed is given back
 number_small : (answer : Answer) → answer_number answer < 256
 unfolding answer_number
-number_small (answers.Done v) = lit< tt
-number_small (answers.Refused r) = omega (arith, number_bound r)
+number_small (Ok v) = lit< tt
+number_small (Err r) = omega (arith, number_bound r)
 
 pub given_back : GivenBack
 unfolding packed
 given_back answer =
     let h : answer_number answer < 256 = number_small answer in (omega arith, omega arith)
 
-outcome_small : (s : Surveyed) → outcome_number s < 4
+outcome_small : (s : Result Surveyed Refusal) → outcome_number s < 4
 unfolding outcome_number
-outcome_small (Failing position looked) = lit< tt
-outcome_small (Done looked) = lit< tt
-outcome_small (Open looked) = lit< tt
-outcome_small (Refused r) = lit< tt
+outcome_small (Ok (Failing position looked)) = lit< tt
+outcome_small (Ok (Done looked)) = lit< tt
+outcome_small (Ok (Open looked)) = lit< tt
+outcome_small (Err r) = lit< tt
 
-survey_given_back : (s : Surveyed) → failing_position s < 2 ^ 22 → SurveyGivenBack s
+survey_given_back : (s : Result Surveyed Refusal) → failing_position s < 2 ^ 22 → SurveyGivenBack s
 unfolding packed_survey
 survey_given_back s position =
     let number : answer_number (survey_answer s) < 256 = number_small (survey_answer s) in

@@ -23,14 +23,13 @@
 --                      surveys_given_back
 -- InverseGivenBack   : they give the inverse back, and that there is none, whose number is that of no refusal. Shown in
 --                      proofs/Values.antt: inverse_given_back
-use Rattle.std.specs.Prelude.{◌≡◌, ◌≢◌, List, ℕ, ◌+◌, ◌*◌, ◌/◌, ◌%◌, ◌^◌, ◌<◌}
+use Rattle.std.specs.Prelude.{Result, ◌≡◌, ◌≢◌, List, ℕ, ◌+◌, ◌*◌, ◌/◌, ◌%◌, ◌^◌, ◌<◌}
 use Rattle.gf256.specs.declared.Inverted.{Inverted}
 use Rattle.gf256.specs.declared.Inverted.TheVariants.{Byte, NoInverse}
 use Rattle.document.specs.declared.Numbers.{Numbers}
 use Rattle.document.specs.declared.Refusal.{Refusal}
-use Rattle.document.specs.declared.Answer.{Answer}
 use Rattle.document.specs.declared.Surveyed.{Surveyed}
-use Rattle.document.specs.Refusals.{number_of, answer_number, answer_value}
+use Rattle.document.specs.Refusals.{number_of, answer_number, answer_value, Answer}
 use Rattle.document.specs.Survey.{survey_of, survey_answer, outcome_number, failing_position, looked_in}
 
 unfoldable pub packed : Answer → ℕ
@@ -43,12 +42,12 @@ packed_with (answer, x) = (packed answer, x)
 abbrev pub outcome_packed : ℕ → ℕ → ℕ → ℕ
 outcome_packed outcome position looked = outcome + 4 * (position + 2 ^ 22 * looked)
 
-unfoldable pub packed_survey : Surveyed → ℕ
+unfoldable pub packed_survey : Result Surveyed Refusal → ℕ
 packed_survey s =
     answer_number (survey_answer s)
     + 256 * outcome_packed (outcome_number s) (failing_position s) (looked_in s)
 
-abbrev pub packed_survey_with : {X : Type 0} → Surveyed × X → ℕ × X
+abbrev pub packed_survey_with : {X : Type 0} → Result Surveyed Refusal × X → ℕ × X
 packed_survey_with (answer, x) = (packed_survey answer, x)
 
 -- Document 02, K10: 'say there is none for zero'. It leaves the number for C to us. No refusal is meant by it, and no
@@ -91,7 +90,7 @@ GivenBack =
     (answer : Answer)
     → (unpacked_number (packed answer) ≡ answer_number answer) × (unpacked_value (packed answer) ≡ answer_value answer)
 
-pub record SurveyGivenBack (s : Surveyed) : Type 0 where
+pub record SurveyGivenBack (s : Result Surveyed Refusal) : Type 0 where
   pub number : unpacked_number (packed_survey s) ≡ answer_number (survey_answer s)
   pub outcome : unpacked_outcome (packed_survey s) ≡ outcome_number s
   pub position : unpacked_position (packed_survey s) ≡ failing_position s

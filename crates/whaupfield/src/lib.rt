@@ -1,7 +1,7 @@
 // The functions for a C host: plain numbers and byte slices over the entry points. include/whaupfield.h declares them.
 #![tactic(auto)]
 
-ghost use Rattle.std.specs.Prelude.{◌≡◌, ◌*◌, ◌^◌, ◌<◌};
+ghost use Rattle.std.specs.Prelude.{◌≡◌, ◌*◌, ◌^◌, ◌<◌, Ok};
 ghost use Rattle.gf256.specs.Field.{◌⊗◌, inverted_of};
 ghost use Rattle.document.specs.Refusals.{answer_value};
 ghost use Rattle.document.specs.Encoding.{encode_of};
@@ -13,17 +13,17 @@ ghost use Rattle.document.specs.Survey.{survey_of, failing_position, looked_in};
 ghost use Rattle.whaupfield.specs.Packed.{packed, packed_with, outcome_packed, packed_survey, packed_survey_with};
 ghost use Rattle.whaupfield.specs.Packed.{packed_inverse};
 
-use document::{Answer, Numbers, Recording, Surveyed};
+use document::{Numbers, Recording, Refusal, Surveyed};
 use gf256::Inverted;
 
 // The answer's number in the low byte, its value above it.
-fn pack(answer: Answer) -> u64
+fn pack(answer: Result<usize, Refusal>) -> u64
     requires { answer_value answer < 2 ^ 55 }
     ensures { result ≡ packed answer }
 {
     match answer {
-        Answer::Done(v) => 256 * (v as u64),
-        Answer::Refused(r) => (r.number() as u64) + 256 * (r.index() as u64),
+        Ok(v) => 256 * (v as u64),
+        Err(r) => (r.number() as u64) + 256 * (r.index() as u64),
     }
 }
 
@@ -182,16 +182,26 @@ fn pack_outcome(outcome: u64, position: usize, looked: usize) -> u64
     256 * (outcome + 4 * sets)
 }
 
+// What a survey finds.
+fn pack_found(found: Surveyed) -> u64
+    requires { (failing_position (Ok found) < 2 ^ 22) × (looked_in (Ok found) < 2 ^ 22) }
+    ensures { result ≡ packed_survey (Ok found) }
+{
+    match found {
+        Surveyed::Failing(position, looked) => pack_outcome(1, position, looked),
+        Surveyed::Done(looked) => pack_outcome(2, 0, looked),
+        Surveyed::Open(looked) => pack_outcome(3, 0, looked),
+    }
+}
+
 // The answer of a survey.
-fn pack_survey(answer: Surveyed) -> u64
+fn pack_survey(answer: Result<Surveyed, Refusal>) -> u64
     requires { (failing_position answer < 2 ^ 22) × (looked_in answer < 2 ^ 22) }
     ensures { result ≡ packed_survey answer }
 {
     match answer {
-        Surveyed::Failing(position, looked) => pack_outcome(1, position, looked),
-        Surveyed::Done(looked) => pack_outcome(2, 0, looked),
-        Surveyed::Open(looked) => pack_outcome(3, 0, looked),
-        Surveyed::Refused(r) => r.number() as u64,
+        Ok(found) => pack_found(found),
+        Err(r) => r.number() as u64,
     }
 }
 

@@ -1,9 +1,9 @@
 -- `bundle::check` meets its contract: the bundle is the message of the planned places.
+use Rattle.std.specs.Prelude.{Ok, Err}
 use mathlib.Core.Path.{ap₂, ◌∙◌}
 use mathlib.Core.List.{List}
 use Prim.Native.Nat.{ℕ}
 use Rattle.document.specs.declared.Place.{Place}
-use Rattle.document.specs.declared.Answer.TheVariants.{Done, Refused}
 use Rattle.document.specs.Refusals.{tried}
 use Rattle.document.specs.Message.{message_tests}
 use Rattle.document.specs.Bundle.{bundle_tests}
@@ -34,5 +34,5 @@ returns c =
     c.check.ensures
     ∙ ap₂
     (λ (content : List ℕ) (qs : List Place).
-    tried (message_tests c.args.p content c.args.r qs c.args.bundle.now) Refused (Done 0))
+    tried (message_tests c.args.p content c.args.r qs c.args.bundle.now) Err (Ok tt))
     c.lost_content-content.ensures (places_are _ c.requires.0 _ c.requires.1 c.put_plan-end.ensures)

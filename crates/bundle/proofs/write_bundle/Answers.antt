@@ -1,17 +1,16 @@
 -- `bundle::write_bundle` meets its contract: the head of a call.
 use mathlib.Core.Path.{sym, ◌∙◌}
 use Rattle.document.specs.Bundle.{write_of}
-use Rattle.document.proofs.Accepts.{accepted, rejected, passed}
+use Rattle.document.proofs.Accepts.{accepted, refused_exit, passed}
 use Rattle.bundle.proofs.write_bundle.Goals as goal
 
 pub write_with-requires : goal.write_with-requires
-write_with-requires c =
-    accepted _ (sym c.new-checked.ensures ∙ c.in-Passed.is)
+write_with-requires c = accepted _ (sym c.in_ok-profile.ensures)
 
-pub returns-in-Rejected : goal.returns-in-Rejected
+pub returns-in_err-profile : goal.returns-in_err-profile
 unfolding write_of
-returns-in-Rejected c = rejected _ _ _ (cc)
+returns-in_err-profile c = refused_exit _ _ _ c.from_residual.result c.from_residual.ensures.1 c.in_err-profile.ensures
 
-pub returns-in-Passed : goal.returns-in-Passed
+pub returns : goal.returns
 unfolding write_of
-returns-in-Passed c = c.write_with.ensures ∙ passed _ _ _ (cc)
+returns c = c.write_with.ensures ∙ passed _ _ _ (sym c.in_ok-profile.ensures)

@@ -1,11 +1,11 @@
 -- `reading::read_from` meets its contract: the verdict on the small system decides, and its inverse gives the data.
+use Rattle.std.specs.Prelude.{Ok}
 use mathlib.Core.Path.{◌≡◌, sym, ap, ◌∙◌}
 use mathlib.Core.List.{List}
 use Prim.Native.Nat.{ℕ}
 use native.Mathlib.Omega.{arith}
 use lib.Seq.{length-take-le}
 use Rattle.square.specs.declared.Eliminated.{Eliminated}
-use Rattle.document.specs.declared.Answer.TheVariants.{Done}
 use Rattle.half_pairs.specs.HalfPairs.{system_end}
 use Rattle.half_pairs.proofs.System.{stuck_ambiguous, regular_inverse, regular_clear}
 use Rattle.half_pairs.proofs.System.{count_few, halves_front, halves_fit, system_end_lem}
@@ -53,7 +53,7 @@ returns-in-Regular c =
     let a = c.args in
     let h = sym (ap (λ (r : Eliminated). r.verdict) (inverted (goal.at.returns-in-Regular c).After-invert-e)) ∙ c.in-Regular.is in
     rw (regular_clear a.p a.nodes.now c.requires.accepted.0 c.requires.accepted.1 h)
-    (ap (λ (y : List ℕ). (Done 0, y))
+    (ap (λ (y : List ℕ). (Ok 0, y))
     (c.put_data.ensures
     ∙ ap (λ (r : Eliminated). data_by a.p a.nodes.now r.lines a.columns.now) (inverted (goal.at.returns-in-Regular c).After-invert-e)
     ∙ data_by_lem a.p c.requires.accepted.0 a.nodes.now c.requires.accepted.1 _

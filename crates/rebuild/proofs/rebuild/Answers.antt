@@ -1,17 +1,16 @@
 -- `rebuild::rebuild` meets its contract: the head of a call.
 use mathlib.Core.Path.{sym, ◌∙◌}
 use Rattle.document.specs.Rebuild.{rebuild_of}
-use Rattle.document.proofs.Accepts.{accepted, rejected, passed}
+use Rattle.document.proofs.Accepts.{accepted, refused_exit, passed}
 use Rattle.rebuild.proofs.rebuild.Goals as goal
 
 pub rebuild_with-requires : goal.rebuild_with-requires
-rebuild_with-requires c =
-    accepted _ (sym c.new-checked.ensures ∙ c.in-Passed.is)
+rebuild_with-requires c = accepted _ (sym c.in_ok-profile.ensures)
 
-pub returns-in-Rejected : goal.returns-in-Rejected
+pub returns-in_err-profile : goal.returns-in_err-profile
 unfolding rebuild_of
-returns-in-Rejected c = rejected _ _ _ (cc)
+returns-in_err-profile c = refused_exit _ _ _ c.from_residual.result c.from_residual.ensures.1 c.in_err-profile.ensures
 
-pub returns-in-Passed : goal.returns-in-Passed
+pub returns : goal.returns
 unfolding rebuild_of
-returns-in-Passed c = c.rebuild_with.ensures ∙ passed _ _ _ (cc)
+returns c = c.rebuild_with.ensures ∙ passed _ _ _ (sym c.in_ok-profile.ensures)

@@ -5,8 +5,8 @@ use Prim.Native.Nat.{◌<◌}
 use native.Mathlib.Omega.{arith}
 use Rattle.document.specs.Rebuild.{rebuilt_of}
 use Rattle.document.proofs.Bounds.{column_bound}
-use Rattle.rebuild.proofs.Answers.{node_refused, column_refused, bundle_refused, bundle_done, strips_fit}
-use Rattle.rebuild.proofs.rebuild_with.Goals.{After-check-answer, Else-f-p, Start}
+use Rattle.rebuild.proofs.Answers.{node_refused, column_refused, bundle_exit, bundle_done, strips_fit}
+use Rattle.rebuild.proofs.rebuild_with.Goals.{Else-f-p}
 use Rattle.rebuild.proofs.rebuild_with.Goals as goal
 
 -- past the test of the lost node
@@ -28,14 +28,15 @@ rebuild_column-requires c =
     record {
       accepted = (c.requires, known (goal.at.rebuild_column-requires c).Else-f-p, c.if-column-p.false);
       strips_fit = rw (c.strip_stride-stride.ensures, c.first_strip-first.ensures)
-          (strips_fit _ _ c.args.r _ (sym c.check-answer.ensures ∙ c.in-Done.is));
+          (strips_fit _ _ c.args.r _ (sym c.in_ok-check.ensures));
     }
 
-pub returns-in-Refused : goal.returns-in-Refused
-returns-in-Refused c =
-    bundle_refused _ _ _ _ _ (known (goal.at.returns-in-Refused c).Else-f-p) c.if-column-p.false c.check-answer.ensures c.in-Refused.is
+pub returns-in_err-check : goal.returns-in_err-check
+returns-in_err-check c =
+    bundle_exit _ _ _ _ _ (known (goal.at.returns-in_err-check c).Else-f-p) c.if-column-p.false c.from_residual.result
+    c.from_residual.ensures.1 c.in_err-check.ensures
 
-pub returns-in-Done : goal.returns-in-Done
-returns-in-Done c =
-    bundle_done _ _ _ _ _ (known (goal.at.returns-in-Done c).Else-f-p) c.if-column-p.false c.check-answer.ensures c.in-Done.is
+pub returns : goal.returns
+returns c =
+    bundle_done _ _ _ _ _ (known (goal.at.returns c).Else-f-p) c.if-column-p.false (sym c.in_ok-check.ensures)
     (c.rebuild_column.ensures ∙ ap₂ (rebuilt_of _ _ _) c.first_strip-first.ensures c.strip_stride-stride.ensures)

@@ -11,7 +11,7 @@ use borrow.Author.Rules.{rules}
 use Rattle.document.specs.Profile.{max_rows, max_strip}
 use Rattle.document.specs.Program.{wanted_numbers}
 use Rattle.rebuild_answer.proofs.Answers.{column_answered, line_answered, index_small}
-use Rattle.rebuild_answer.proofs.put_answer.Goals.{After-least-room, After-rebuild_input-outcome, Start}
+use Rattle.rebuild_answer.proofs.put_answer.Goals.{After-least-room, After-rebuild_input, Start}
 use Rattle.rebuild_answer.proofs.put_answer.Goals as goal
 
 pub overflow_mul-p : goal.overflow_mul-p
@@ -27,7 +27,7 @@ pub slice_bounds-rebuild_input-end-2 : goal.slice_bounds-rebuild_input-end-2
 slice_bounds-rebuild_input-end-2 c = search rules
 
 -- what was lent to the rebuild
-module _ (r : After-rebuild_input-outcome) where
+module _ (r : After-rebuild_input) where
   same : r.numbers-p.result ≡ wanted_numbers r.args.input.now
   same = r.numbers-p.ensures.0
 
@@ -40,24 +40,24 @@ module _ (r : After-rebuild_input-outcome) where
   lent = fits ∙ r.least-room.ensures
 
   -- the output with the lent part given back
-  whole : length (r.rebuild_input-outcome.new.column ++ drop r.least-room.result r.args.out.now)
+  whole : length (r.rebuild_input.new.column ++ drop r.least-room.result r.args.out.now)
       ≡ length r.args.out.now
   whole =
-      length_front r.args.out.now r.rebuild_input-outcome.new.column r.least-room.result
-      r.rebuild_input-outcome.auto.column
+      length_front r.args.out.now r.rebuild_input.new.column r.least-room.result
+      r.rebuild_input.auto.column
 
 pub put_line-requires : goal.put_line-requires
 put_line-requires c = (
-  omega (arith, whole (goal.at.put_line-requires c).After-rebuild_input-outcome, c.requires),
-  index_small _ _ (same (goal.at.put_line-requires c).After-rebuild_input-outcome) _ (lent (goal.at.put_line-requires c).After-rebuild_input-outcome) c.rebuild_input-outcome.ensures c.in-Refused.is,
+  omega (arith, whole (goal.at.put_line-requires c).After-rebuild_input, c.requires),
+  index_small _ _ (same (goal.at.put_line-requires c).After-rebuild_input) _ (lent (goal.at.put_line-requires c).After-rebuild_input) c.rebuild_input.ensures c.in-Err.is,
 )
 
-pub returns-in-Done : goal.returns-in-Done
-returns-in-Done c =
-    column_answered _ _ (same (goal.at.returns-in-Done c).After-rebuild_input-outcome) _ (lent (goal.at.returns-in-Done c).After-rebuild_input-outcome) c.rebuild_input-outcome.ensures c.in-Done.is
-    c.args.out.now c.least-room.result (c.rebuild_input-outcome.auto.column ∙ fits (goal.at.returns-in-Done c).After-rebuild_input-outcome)
+pub returns-in-Ok : goal.returns-in-Ok
+returns-in-Ok c =
+    column_answered _ _ (same (goal.at.returns-in-Ok c).After-rebuild_input) _ (lent (goal.at.returns-in-Ok c).After-rebuild_input) c.rebuild_input.ensures c.in-Ok.is
+    c.args.out.now c.least-room.result (c.rebuild_input.auto.column ∙ fits (goal.at.returns-in-Ok c).After-rebuild_input)
 
-pub returns-in-Refused : goal.returns-in-Refused
-returns-in-Refused c =
-    line_answered _ _ (same (goal.at.returns-in-Refused c).After-rebuild_input-outcome) _ (lent (goal.at.returns-in-Refused c).After-rebuild_input-outcome) c.rebuild_input-outcome.ensures c.in-Refused.is
+pub returns-in-Err : goal.returns-in-Err
+returns-in-Err c =
+    line_answered _ _ (same (goal.at.returns-in-Err c).After-rebuild_input) _ (lent (goal.at.returns-in-Err c).After-rebuild_input) c.rebuild_input.ensures c.in-Err.is
     c.args.out.now c.least-room.result refl c.put_line.ensures

@@ -1,17 +1,16 @@
 -- `survey::survey` meets its contract: the head of a call.
 use mathlib.Core.Path.{sym, ◌∙◌}
 use Rattle.document.specs.Survey.{survey_of}
-use Rattle.document.proofs.Accepts.{accepted, rejected, passed}
+use Rattle.document.proofs.Accepts.{accepted, refused_exit, passed}
 use Rattle.survey.proofs.survey.Goals as goal
 
 pub survey_with-requires : goal.survey_with-requires
-survey_with-requires c =
-    accepted _ (sym c.new-checked.ensures ∙ c.in-Passed.is)
+survey_with-requires c = accepted _ (sym c.in_ok-profile.ensures)
 
-pub returns-in-Rejected : goal.returns-in-Rejected
+pub returns-in_err-profile : goal.returns-in_err-profile
 unfolding survey_of
-returns-in-Rejected c = rejected _ _ _ (cc)
+returns-in_err-profile c = refused_exit _ _ _ c.from_residual.result c.from_residual.ensures.1 c.in_err-profile.ensures
 
-pub returns-in-Passed : goal.returns-in-Passed
+pub returns : goal.returns
 unfolding survey_of
-returns-in-Passed c = c.survey_with.ensures ∙ passed _ _ _ (cc)
+returns c = c.survey_with.ensures ∙ passed _ _ _ (sym c.in_ok-profile.ensures)

@@ -10,25 +10,25 @@ use Rattle.whaupfield.proofs.pack.Goals as goal
 pub overflow_mul-result : goal.overflow_mul-result
 unfolding answer_value
 overflow_mul-result c =
-    let value : c.in-Done.v < 2 ^ 55 = rw c.in-Done.is at c.requires in omega arith
+    let value : c.in-Ok.v < 2 ^ 55 = rw c.in-Ok.is at c.requires in omega arith
 
-pub overflow_mul-result-in-Refused : goal.overflow_mul-result-in-Refused
+pub overflow_mul-result-in-Err : goal.overflow_mul-result-in-Err
 unfolding answer_value
-overflow_mul-result-in-Refused c =
-    let value : index_of c.in-Refused.r < 2 ^ 55 = rw c.in-Refused.is at c.requires in omega (arith, c.index.ensures)
+overflow_mul-result-in-Err c =
+    let value : index_of c.in-Err.r < 2 ^ 55 = rw c.in-Err.is at c.requires in omega (arith, c.index.ensures)
 
 pub overflow_add-result : goal.overflow_add-result
 unfolding answer_value
 overflow_add-result c =
-    let value : index_of c.in-Refused.r < 2 ^ 55 = rw c.in-Refused.is at c.requires in
+    let value : index_of c.in-Err.r < 2 ^ 55 = rw c.in-Err.is at c.requires in
     omega (arith, c.index.ensures, c.number.type_inv)
 
-pub returns-in-Done : goal.returns-in-Done
+pub returns-in-Ok : goal.returns-in-Ok
 unfolding packed answer_number answer_value
-returns-in-Done c = sym (ap packed c.in-Done.is ∙ zero-add _)
+returns-in-Ok c = sym (ap packed c.in-Ok.is ∙ zero-add _)
 
-pub returns-in-Refused : goal.returns-in-Refused
+pub returns-in-Err : goal.returns-in-Err
 unfolding packed answer_number answer_value
-returns-in-Refused c =
+returns-in-Err c =
     ap₂ (λ (n i : ℕ). n + 256 * i) c.number.ensures c.index.ensures
-    ∙ sym (ap packed c.in-Refused.is)
+    ∙ sym (ap packed c.in-Err.is)

@@ -1,39 +1,17 @@
--- `whaupfield::pack_survey` meets its contract, outcome by outcome.
+-- `whaupfield::pack_survey` meets its contract: what is found, or the refusal.
 use mathlib.Core.Path.{sym, ap, ◌∙◌}
-use native.Mathlib.Nat.{add-zero, zero-add}
-use native.Mathlib.Omega.{arith}
+use native.Mathlib.Nat.{add-zero}
 use Rattle.document.specs.Refusals.{answer_number}
 use Rattle.document.specs.Survey.{survey_answer, outcome_number, failing_position, looked_in}
 use Rattle.whaupfield.specs.Packed.{packed_survey}
 use Rattle.whaupfield.proofs.pack_survey.Goals as goal
 
-pub pack_outcome-requires : goal.pack_outcome-requires
-unfolding failing_position looked_in
-pack_outcome-requires c =
-    (omega arith, rw c.in-Failing.is at c.requires.0, rw c.in-Failing.is at c.requires.1)
+pub pack_found-requires : goal.pack_found-requires
+pack_found-requires c = rw c.in-Ok.is at c.requires
 
-pub pack_outcome-requires-in-Done : goal.pack_outcome-requires-in-Done
-unfolding looked_in
-pack_outcome-requires-in-Done c =
-    (omega arith, omega arith, rw c.in-Done.is at c.requires.1)
+pub returns-in-Ok : goal.returns-in-Ok
+returns-in-Ok c = c.pack_found.ensures ∙ sym (ap packed_survey c.in-Ok.is)
 
-pub pack_outcome-requires-in-Open : goal.pack_outcome-requires-in-Open
-unfolding looked_in
-pack_outcome-requires-in-Open c =
-    (omega arith, omega arith, rw c.in-Open.is at c.requires.1)
-
-pub returns-in-Failing : goal.returns-in-Failing
+pub returns-in-Err : goal.returns-in-Err
 unfolding packed_survey answer_number survey_answer outcome_number failing_position looked_in
-returns-in-Failing c = c.pack_outcome.ensures ∙ sym (ap packed_survey c.in-Failing.is ∙ zero-add _)
-
-pub returns-in-Done : goal.returns-in-Done
-unfolding packed_survey answer_number survey_answer outcome_number failing_position looked_in
-returns-in-Done c = c.pack_outcome-in-Done.ensures ∙ sym (ap packed_survey c.in-Done.is ∙ zero-add _)
-
-pub returns-in-Open : goal.returns-in-Open
-unfolding packed_survey answer_number survey_answer outcome_number failing_position looked_in
-returns-in-Open c = c.pack_outcome-in-Open.ensures ∙ sym (ap packed_survey c.in-Open.is ∙ zero-add _)
-
-pub returns-in-Refused : goal.returns-in-Refused
-unfolding packed_survey answer_number survey_answer outcome_number failing_position looked_in
-returns-in-Refused c = c.number.ensures ∙ sym (ap packed_survey c.in-Refused.is ∙ add-zero _)
+returns-in-Err c = c.number.ensures ∙ sym (ap packed_survey c.in-Err.is ∙ add-zero _)

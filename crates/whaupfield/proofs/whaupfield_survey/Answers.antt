@@ -2,6 +2,8 @@
 use mathlib.Core.Path.{ap, ◌∙◌}
 use mathlib.Core.List.{List}
 use Prim.Native.Nat.{ℕ}
+use Rattle.std.specs.Prelude.{Result}
+use Rattle.document.specs.declared.Refusal.{Refusal}
 use Rattle.document.specs.declared.Surveyed.{Surveyed}
 use Rattle.whaupfield.specs.Packed.{packed_survey_with}
 use Rattle.whaupfield.proofs.Values.{survey_fits}
@@ -9,7 +11,7 @@ use Rattle.whaupfield.proofs.whaupfield_survey.Goals as goal
 
 pub pack_survey-requires : goal.pack_survey-requires
 pack_survey-requires c =
-    rw (ap (λ (o : Surveyed × List ℕ). o.0) c.survey.ensures) (survey_fits _ _ _ _)
+    rw (ap (λ (o : Result Surveyed Refusal × List ℕ). o.0) c.survey.ensures) (survey_fits _ _ _ _)
 
 pub returns : goal.returns
 returns c =
