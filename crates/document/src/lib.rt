@@ -12,7 +12,7 @@ ghost use Rattle.document.specs.Encoding;
 ghost use Rattle.document.specs.Encoding.{constant_of, factor_at};
 
 // The numbers of a profile as they are handed in: any numbers whatever.
-#[derive(Clone, Copy)]
+#[derive(Clone, Copy, PartialEq, Eq)]
 pub struct Numbers {
     pub n: usize,
     pub k: usize,
@@ -25,7 +25,7 @@ pub struct Numbers {
 // The same as a profile: nodes, data nodes, rows, coupling constant, strip length in bytes, and the edition, which says
 // how a plan walks and how field 01 is written. `Profile::new` hands out accepted ones only; a function that rests on
 // that asks that it is `Accepted`.
-#[derive(Clone, Copy)]
+#[derive(Clone, Copy, PartialEq, Eq)]
 pub struct Profile {
     pub n: usize,
     pub k: usize,
@@ -36,21 +36,21 @@ pub struct Profile {
 }
 
 // A node's number. A row's number is another type: staff read the two off different labels.
-#[derive(Clone, Copy)]
+#[derive(Clone, Copy, PartialEq, Eq)]
 pub struct Node(pub usize);
 
-#[derive(Clone, Copy)]
+#[derive(Clone, Copy, PartialEq, Eq)]
 pub struct Row(pub usize);
 
 // A place is written node first, then row.
-#[derive(Clone, Copy)]
+#[derive(Clone, Copy, PartialEq, Eq)]
 pub struct Place {
     pub node: Node,
     pub row: Row,
 }
 
 // A recording is a scenario and a run of it.
-#[derive(Clone, Copy)]
+#[derive(Clone, Copy, PartialEq, Eq)]
 pub struct Recording {
     pub scenario: u32,
     pub run: u16,
@@ -64,22 +64,15 @@ impl Recording {
     pub fn bytes(self) -> [u8; Recording::BYTES]
         ensures { result ≡ recording_bytes self }
     {
-        let scenario = fields::four_bytes(self.scenario);
-        let run = fields::two_bytes(self.run as usize);
-        [
-            scenario[0],
-            scenario[1],
-            scenario[2],
-            scenario[3],
-            run[0],
-            run[1],
-        ]
+        let [a, b, c, d] = self.scenario.to_be_bytes();
+        let [e, f] = self.run.to_be_bytes();
+        [a, b, c, d, e, f]
     }
 }
 
 // Why a call is refused, in the order in which it is tried; `number_of` in specs/ gives the number. What a call answers
 // is a `Result`: the value that the documents give it on success, or the refusal.
-#[derive(Clone, Copy)]
+#[derive(Clone, Copy, PartialEq, Eq)]
 pub enum Refusal {
     // 1: n, k or A not accepted
     Shape,
@@ -138,7 +131,7 @@ impl Refusal {
 }
 
 // What a survey that is not refused finds, with the number of sets looked at.
-#[derive(Clone, Copy)]
+#[derive(Clone, Copy, PartialEq, Eq)]
 pub enum Surveyed {
     // The first failing set: its position, counted from the first set of all, and the number.
     Failing(usize, usize),
