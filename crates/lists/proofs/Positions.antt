@@ -1,5 +1,7 @@
 -- Where a number stands in a list: its first entry that is the number.
-use Rattle.std.proofs.Common.{◌≡◌, ◌≢◌, ℕ, suc, ◌≤◌, ◌<◌, ◌==◌, List, ◌∷◌, length, get_or, refl, true, arith}
+use Rattle.std.proofs.Common.{◌≡◌, ◌≢◌, ℕ, suc, ◌≤◌, ◌<◌, ◌==◌, List, ◌∷◌, length, get_or, refl, true, not, arith}
+use Rattle.std.specs.List.{position}
+use Rattle.std.specs.Option.{unwrap_or}
 use Rattle.std.proofs.lemmas.List.Sums.{prefix_len-le-length, passes_at_first, fails_before_first}
 use borrow.Author.Tests.{eq-eqb, ne_eqb, eqb-true}
 use Rattle.lists.specs.Positions.{position_in}
@@ -29,3 +31,8 @@ module _ (xs : List ℕ) (j : ℕ) where
   position_within i l e =
       let found : (get_or xs i 0 == j) ≡ true = eq-eqb _ j e in
       grind (arith, fails_before_first (λ (x : ℕ). x == j) xs i 0)
+
+  -- What std's search finds, or the length where it finds nothing.
+  pub position_found : unwrap_or (position (λ (x : ℕ). x == j) xs) (length xs) ≡ position_in xs j
+  unfolding position_in
+  position_found = grind (arith, prefix_len-le-length (λ (x : ℕ). not (x == j)) xs)

@@ -10,7 +10,7 @@ use Rattle.std.specs.Str.{bytes_eq}
 unfoldable pub slice : List ℕ → ℕ → ℕ → List ℕ
 slice x at m = take m (drop at x)
 
-abbrev pub same : List ℕ → List ℕ → Bool
+unfoldable pub same : List ℕ → List ℕ → Bool
 same = bytes_eq
 
 unfoldable pub put : List ℕ → ℕ → List ℕ → List ℕ

@@ -31,7 +31,7 @@ pub fn put_if(out: &mut [u8], at: usize, v: usize, wanted: bool) -> usize
 }
 
 // Whether the bytes of b from `at` on are those of want.
-#[tactic(auto, unfolding(crate::specs::Put::slice))]
+#[tactic(auto, unfolding(crate::specs::Put::slice, crate::specs::Put::same))]
 pub fn same_at(b: &[u8], at: usize, want: &[u8]) -> bool
     requires { at + length want.now ≤ length b.now }
     ensures { result ≡ same (slice b.now at (length want.now)) want.now }

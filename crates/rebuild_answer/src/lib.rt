@@ -115,7 +115,7 @@ fn rebuild_input(input: &[u8], p: Numbers, column: &mut [u8]) -> Answer
 {
     let lost = byte_in(input, 6) as usize;
     let r = recording(input);
-    let head = lists::least(input.len(), WANTED);
+    let head = input.len().min(WANTED);
     rebuild::rebuild(p, lost, r, &input[head..], column)
 }
 
@@ -125,7 +125,7 @@ fn put_answer(out: &mut [u8], input: &[u8]) -> usize
     ensures { Wrote out.old 0 (program_of input.now) result out.new }
 {
     let p = numbers(input);
-    let room = lists::least(p.a * p.s, COLUMN);
+    let room = (p.a * p.s).min(COLUMN);
     let outcome = rebuild_input(input, p, &mut out[..room]);
     match outcome {
         Answer::Done(_) => room,
