@@ -9,22 +9,28 @@ ghost use Rattle.fields.specs.Fields.{two_bytes, four_bytes, opening, opening_le
 pub const OPENING: usize = 3;
 
 // The number in two bytes, high byte first; above 65535, its lowest sixteen bits count.
+#[tactic(auto, unfolding(crate::specs::Fields::two_bytes))]
 pub fn two_bytes(v: usize) -> [u8; 2]
     ensures { result ≡ two_bytes v }
 {
-    [(v / 256 % 256) as u8, (v % 256) as u8]
+    ((v & 0xffff) as u16).to_be_bytes()
 }
 
 // The number in four bytes, high byte first.
+#[tactic(auto, unfolding(crate::specs::Fields::four_bytes))]
 pub fn four_bytes(v: u32) -> [u8; 4]
     ensures { result ≡ four_bytes v }
 {
-    [
-        (v / 16777216 % 256) as u8,
-        (v / 65536 % 256) as u8,
-        (v / 256 % 256) as u8,
-        (v % 256) as u8,
-    ]
+    v.to_be_bytes()
+}
+
+// What a field with this tag and this length opens with.
+#[tactic(auto, unfolding(crate::specs::Fields::opening, crate::specs::Fields::two_bytes))]
+fn opening(tag: u8, len: usize) -> [u8; OPENING]
+    ensures { result ≡ opening tag len }
+{
+    let [high, low] = two_bytes(len);
+    [tag, high, low]
 }
 
 // Writes the tag and the length that a field opens with, and returns the position after them.
@@ -32,9 +38,7 @@ pub fn put_opening(out: &mut [u8], at: usize, tag: u8, len: usize) -> usize
     requires { at + opening_length ≤ length out.old }
     ensures { Wrote out.old at (opening tag len) result out.new }
 {
-    let size = two_bytes(len);
-    let bytes = [tag, size[0], size[1]];
-    lists::put_bytes(out, at, &bytes)
+    lists::put_bytes(out, at, &opening(tag, len))
 }
 
 // Whether the field that starts at `at` opens with this tag and this length.
@@ -42,7 +46,5 @@ pub fn opens(b: &[u8], at: usize, tag: u8, len: usize) -> bool
     requires { at + opening_length ≤ length b.now }
     ensures { result ≡ same (slice b.now at opening_length) (opening tag len) }
 {
-    let size = two_bytes(len);
-    let want = [tag, size[0], size[1]];
-    lists::same_at(b, at, &want)
+    lists::same_at(b, at, &opening(tag, len))
 }

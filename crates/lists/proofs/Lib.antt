@@ -9,6 +9,5 @@ pub mod Slice
 pub mod Some
 pub mod Once
 pub mod Around
-pub mod Same
 pub mod Parts
 pub mod Positions

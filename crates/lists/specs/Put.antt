@@ -4,16 +4,14 @@
 -- same xs ys           : xs and ys are equal
 -- put d at vs          : d with vs written from `at` on
 -- Wrote d at vs next e : a function that was lent d and a position left e and the next position: it wrote vs
-use Rattle.std.specs.Prelude.{◌≡◌, Bool, true, false, ◌&&◌, List, [], ◌∷◌, ◌++◌, ℕ, ◌+◌, eqb, length, take, drop}
+use Rattle.std.specs.Prelude.{◌≡◌, Bool, List, ◌++◌, ℕ, ◌+◌, length, take, drop}
+use Rattle.std.specs.Str.{bytes_eq}
 
 unfoldable pub slice : List ℕ → ℕ → ℕ → List ℕ
 slice x at m = take m (drop at x)
 
 unfoldable pub same : List ℕ → List ℕ → Bool
-same [] [] = true
-same [] (y ∷ ys) = false
-same (x ∷ xs) [] = false
-same (x ∷ xs) (y ∷ ys) = eqb x y && same xs ys
+same = bytes_eq
 
 unfoldable pub put : List ℕ → ℕ → List ℕ → List ℕ
 put d at vs = take at d ++ (vs ++ drop (at + length vs) d)

@@ -156,7 +156,7 @@ pub fn price(p: Profile) -> usize
     ensures { result ≡ price_of p.n p.k p.a }
 {
     let others = p.n / p.a - 1;
-    let singles = lists::least(p.k, others);
+    let singles = p.k.min(others);
     p.a - 1 + p.k + (p.k - singles)
 }
 

@@ -209,7 +209,10 @@ fn put_row(
         i,
         &mut coefficients[..k],
     );
-    let at = lists::position_of(own, f.0 / p.a * p.a + i);
+    // Node i of the group. The lost node, which is not in `own`, gives no strip: for its row the place is not read.
+    let member = f.0 / p.a * p.a + i;
+    let found = own.iter().position(|j| usize::from(*j) == member);
+    let at = found.unwrap_or(own.len());
     sum_row(dst, folded, p, f, i, &coefficients[..k], at);
 }
 

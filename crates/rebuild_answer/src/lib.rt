@@ -125,7 +125,7 @@ fn put_answer(out: &mut [u8], input: &[u8]) -> usize
     ensures { Wrote out.old 0 (program_of input.now) result out.new }
 {
     let p = numbers(input);
-    let room = lists::least(p.a * p.s, COLUMN);
+    let room = (p.a * p.s).min(COLUMN);
     match rebuild_input(input, p, &mut out[..room]) {
         Ok(_) => room,
         Err(r) => put_line(out, r),

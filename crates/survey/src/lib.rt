@@ -79,7 +79,7 @@ fn survey_from(
     ensures { (result, set.new) ≡ result_of p start most set.old }
 {
     let k = p.k;
-    let looked = lists::least(most, total - start);
+    let looked = most.min(total - start);
     let end = start + looked;
     let mut current = [0u8; Profile::MAX_NODES];
     let found = first_failing(p, &mut current[..k], start, end);

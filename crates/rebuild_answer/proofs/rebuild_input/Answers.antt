@@ -7,4 +7,4 @@ pub returns : goal.returns
 returns c =
     c.rebuild.ensures
     ∙ read_rebuilt c.args.input.now c.args.p c.args.column.now c.byte_in-lost.ensures
-    c.recording-r.ensures (bundle_part c.args.input.now c.least-head.result c.least-head.ensures)
+    c.recording-r.ensures (bundle_part c.args.input.now c.min-head.result c.min-head.ensures)

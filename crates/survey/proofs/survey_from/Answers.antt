@@ -11,19 +11,19 @@ use Rattle.strips.proofs.Strip.{strip_lent}
 use Rattle.document.specs.Survey.{looked_at}
 use Rattle.document.proofs.Surveys.{first_found}
 use Rattle.survey.proofs.Answers.{failing, done, left_open}
-use Rattle.survey.proofs.survey_from.Goals.{After-first_failing-found, After-least-looked, Start}
+use Rattle.survey.proofs.survey_from.Goals.{After-first_failing-found, After-min-looked, Start}
 use Rattle.survey.proofs.survey_from.Goals as goal
 
 -- the number of sets to look at
-module _ (c : After-least-looked) where
-  number : c.least-looked.result ≡ looked_at c.args.p c.args.start c.args.most
+module _ (c : After-min-looked) where
+  number : c.min-looked.result ≡ looked_at c.args.p c.args.start c.args.most
   number =
       let a = c.args in
-      c.least-looked.ensures
+      c.min-looked.ensures
       ∙ ap (λ (t : ℕ). min a.most (t - a.start)) c.requires.1
 
-  within : c.args.start + c.least-looked.result ≤ c.args.total
-  within = omega (arith, c.least-looked.ensures, c.requires.2)
+  within : c.args.start + c.min-looked.result ≤ c.args.total
+  within = omega (arith, c.min-looked.ensures, c.requires.2)
 
   few : c.args.p.k ≤ 24
   few = omega (arith, c.requires.0.shape)
@@ -35,14 +35,14 @@ pub slice_bounds-current-end : goal.slice_bounds-current-end
 slice_bounds-current-end c = few c
 
 pub slice_bounds-first_failing-end : goal.slice_bounds-first_failing-end
-slice_bounds-first_failing-end c = sym (length-take-le _ _ (few (goal.at.slice_bounds-first_failing-end c).After-least-looked))
+slice_bounds-first_failing-end c = sym (length-take-le _ _ (few (goal.at.slice_bounds-first_failing-end c).After-min-looked))
 
 pub first_failing-found-requires : goal.first_failing-found-requires
 first_failing-found-requires c = (
   c.requires.0,
   sym (slice_bounds-first_failing-end c),
   omega arith,
-  omega (arith, within (goal.at.first_failing-found-requires c).After-least-looked, c.requires.1),
+  omega (arith, within (goal.at.first_failing-found-requires c).After-min-looked, c.requires.1),
 )
 
 -- the array once its front holds a set
@@ -74,7 +74,7 @@ slice_bounds-copy-end c = sym (whole (goal.at.slice_bounds-copy-end c).After-fir
 
 pub copy-requires : goal.copy-requires
 copy-requires c =
-    omega (arith, whole (goal.at.copy-requires c).After-first_failing-found, few (goal.at.copy-requires c).After-least-looked, c.requires.3)
+    omega (arith, whole (goal.at.copy-requires c).After-first_failing-found, few (goal.at.copy-requires c).After-min-looked, c.requires.3)
 
 pub overflow_sub-passed : goal.overflow_sub-passed
 overflow_sub-passed c =
@@ -82,15 +82,15 @@ overflow_sub-passed c =
 
 pub returns-then-found-end : goal.returns-then-found-end
 returns-then-found-end c =
-    failing _ _ _ _ _ _ (number (goal.at.returns-then-found-end c).After-least-looked) c.first_failing-found.ensures.first c.if-found-end.true _
+    failing _ _ _ _ _ _ (number (goal.at.returns-then-found-end c).After-min-looked) c.first_failing-found.ensures.first c.if-found-end.true _
     (c.copy.ensures ∙ copied (goal.at.returns-then-found-end c).After-first_failing-found _ c.requires.3 ∙ c.first_failing-found.ensures.set c.if-found-end.true)
 
 pub returns-then-end-total : goal.returns-then-end-total
 returns-then-end-total c =
-    done _ _ _ _ _ _ (number (goal.at.returns-then-end-total c).After-least-looked) c.first_failing-found.ensures.first c.if-found-end.false
+    done _ _ _ _ _ _ (number (goal.at.returns-then-end-total c).After-min-looked) c.first_failing-found.ensures.first c.if-found-end.false
     (c.if-end-total.true ∙ c.requires.1)
 
 pub returns : goal.returns
 returns c =
-    left_open _ _ _ _ _ _ (number (goal.at.returns c).After-least-looked) c.first_failing-found.ensures.first c.if-found-end.false
+    left_open _ _ _ _ _ _ (number (goal.at.returns c).After-min-looked) c.first_failing-found.ensures.first c.if-found-end.false
     (λ e. c.if-end-total.false (e ∙ sym c.requires.1))
