@@ -1,5 +1,5 @@
 -- The data nodes: they differ, a parity node is none of them, and what their weights are.
-use mathlib.Core.Path.{◌≡◌, sym, ap, ◌∙◌}
+use mathlib.Core.Path.{◌≡◌, refl, sym, ap, ◌∙◌}
 use mathlib.Core.List.{List}
 use Prim.Native.Nat.{ℕ, ◌≤◌, ◌<◌}
 use native.Mathlib.Omega.{arith}
@@ -10,6 +10,7 @@ use Rattle.lists.proofs.Listed.{listed_length, listed_at, listed_take}
 use Rattle.algebra.specs.Weight.{weight}
 use Rattle.algebra.proofs.Weight.{weight_ext}
 use Rattle.document.specs.ByteField.{bytes, byte, number}
+use Rattle.coefficients.specs.declared.TheConstants.{FIRST_NODES}
 use Rattle.coefficients.specs.Weights.{Different, Outside, points, weights_of}
 use Rattle.coefficients.specs.Data.{data_nodes, data_weights}
 use Rattle.coefficients.proofs.Lagrange.{weights_length, weights_at}
@@ -22,9 +23,14 @@ pub data_length : (k : ℕ) → length (data_nodes k) ≡ k
 unfolding data_nodes
 data_length k = listed_length k (λ q. q)
 
-pub data_nodes_lem : (k : ℕ) {nodes : List ℕ} → nodes ≡ listed 24 (λ q. q) → k ≤ 24 → take k nodes ≡ data_nodes k
+-- the first nodes, as the code lists them: the whole list is compared
+first_nodes : FIRST_NODES ≡ listed 24 (λ q. q)
+unfolding listed
+first_nodes = refl
+
+pub data_nodes_lem : (k : ℕ) → k ≤ 24 → take k FIRST_NODES ≡ data_nodes k
 unfolding data_nodes
-data_nodes_lem k e h = ap (take k) e ∙ listed_take k 24 (λ q. q) h
+data_nodes_lem k h = ap (take k) first_nodes ∙ listed_take k 24 (λ q. q) h
 
 pub data_different : (k : ℕ) → k ≤ 24 → Different (data_nodes k)
 data_different k h = record {

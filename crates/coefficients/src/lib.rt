@@ -13,7 +13,8 @@ ghost use Rattle.coefficients.specs.Data.{data_denominators, data_weights};
 
 use document::Profile;
 
-// The bytes that are multiplied at once.
+// The bytes that are multiplied at once. Those past the last whole vector are multiplied a few at a time, so that a list
+// shorter than a vector takes less time as a whole one. One of 20 bytes takes as long as two.
 const VECTOR: usize = 16;
 
 // The sum of x and each node.
@@ -21,22 +22,9 @@ fn differences(x: u8, nodes: &[u8], out: &mut [u8])
     requires { length out.old ≡ length nodes.now }
     ensures { out.new ≡ differences_of nodes.now x }
 {
-    let mut i = 0;
-    while i < nodes.len() {
-        out[i] = x ^ nodes[i];
-        i += 1;
+    for (i, node) in nodes.iter().enumerate() {
+        out[i] = x ^ *node;
     }
-}
-
-// The length in which a list of k bytes is multiplied. The bytes past the last whole vector are multiplied a few at a
-// time, so that a list shorter than a vector takes less time as a whole one. One of 20 bytes takes as long as two.
-fn width(k: usize) -> usize
-    ensures { result ≡ max k 16 }
-{
-    if k < VECTOR {
-        return VECTOR;
-    }
-    k
 }
 
 // Multiplies each denominator by the difference of its node and node q; node q's own, which is 0, counts as 1. What
@@ -62,14 +50,12 @@ pub fn denominators(nodes: &[u8], out: &mut [u8])
     requires out_len { length out.old ≡ length nodes.now }
     ensures { out.new ≡ denominators_of nodes.now }
 {
-    let w = width(nodes.len());
+    let w = nodes.len().max(VECTOR);
     let mut all = [1u8; Profile::MAX_NODES];
-    let mut q = 0;
-    while q < nodes.len() {
+    for q in 0..nodes.len() {
         multiply_differences(&mut all[..w], nodes, q);
-        q += 1;
     }
-    strips::copy(out, &all, 0);
+    out.copy_from_slice(&all[..nodes.len()]);
 }
 
 // The weights, from the differences and the denominators. The inverse of the product of the two is a node's share: its
@@ -105,13 +91,9 @@ pub fn weights(nodes: &[u8], denominators: &[u8], at: u8, out: &mut [u8])
 }
 
 // The numbers of the first nodes: the data nodes are the first k of them.
-fn first_nodes() -> [u8; Profile::MAX_NODES]
-    ensures { result ≡ listed max_nodes (λ q. q) }
-{
-    [
-        0, 1, 2, 3, 4, 5, 6, 7, 8, 9, 10, 11, 12, 13, 14, 15, 16, 17, 18, 19, 20, 21, 22, 23,
-    ]
-}
+const FIRST_NODES: [u8; Profile::MAX_NODES] = [
+    0, 1, 2, 3, 4, 5, 6, 7, 8, 9, 10, 11, 12, 13, 14, 15, 16, 17, 18, 19, 20, 21, 22, 23,
+];
 
 // The denominators of the data nodes' weights, for as many data nodes as `out` has bytes.
 pub fn data_denominators(out: &mut [u8])
@@ -119,8 +101,7 @@ pub fn data_denominators(out: &mut [u8])
     ensures { out.new ≡ data_denominators (length out.old) }
 {
     let k = out.len();
-    let nodes = first_nodes();
-    denominators(&nodes[..k], out);
+    denominators(&FIRST_NODES[..k], out);
 }
 
 // The weights of the data nodes at a parity node, for as many data nodes as `out` has bytes.
@@ -130,6 +111,5 @@ pub fn parity_weights(denominators: &[u8], j: usize, out: &mut [u8])
     ensures { out.new ≡ data_weights (length out.old) j }
 {
     let k = out.len();
-    let nodes = first_nodes();
-    weights(&nodes[..k], denominators, j as u8, out);
+    weights(&FIRST_NODES[..k], denominators, j as u8, out);
 }

@@ -6,7 +6,7 @@ use lib.ListN.{length, get_or}
 use Rattle.lists.specs.Listed.{listed}
 use Rattle.lists.proofs.Listed.{listed_length, listed_at, listed_ext, listed_get_or}
 use Rattle.gf256.specs.Field.{◌⊕◌, ◌⊗◌}
-use Rattle.gf256.proofs.Ring.{zero-add, one-mul}
+use Rattle.gf256.proofs.Ring.{one-mul}
 use Rattle.strips.specs.Strips.{added_scaled}
 use Rattle.strips.proofs.Added.{added_listed}
 use Rattle.coupling.specs.Pairs.{multiple_of, uncoupled_strip}
@@ -29,16 +29,6 @@ multiple_one d strip e small =
     (listed_ext (length strip) _ (λ b. get_or strip b 0)
     (λ b h. ap (λ (c : ℕ). c ⊗ get_or strip b 0) e ∙ one-mul (get_or strip b 0) (small b))
     ∙ entries (length strip) strip refl)
-
--- a multiple added to zeros
-pub multiple_added : (d n : ℕ) (strip : List ℕ) → length strip ≡ n
-    → added_scaled d 0 strip (listed n (λ b. 0)) ≡ multiple_of d strip
-unfolding multiple_of
-multiple_added d n strip e =
-    ap (λ (l : List ℕ). added_scaled d 0 l (listed n (λ b. 0))) (sym (entries n strip e))
-    ∙ added_listed d n (λ b. get_or strip b 0) (λ b. 0)
-    ∙ listed_ext n _ (λ b. d ⊗ get_or strip b 0) (λ b h. zero-add _)
-    ∙ ap (λ (m : ℕ). listed m (λ b. d ⊗ get_or strip b 0)) (sym e)
 
 -- the steps of `uncouple`
 pub uncoupled : (f d n : ℕ) (own partner : List ℕ) → length own ≡ n → length partner ≡ n

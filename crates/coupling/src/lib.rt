@@ -19,8 +19,8 @@ fn couple_pair(x: &mut [u8], upper: usize, lower: usize, s: usize, t: u8)
 {
     let mut u = [0u8; Profile::MAX_STRIP];
     let mut v = [0u8; Profile::MAX_STRIP];
-    strips::copy(&mut u[..s], x, upper);
-    strips::copy(&mut v[..s], x, lower);
+    u[..s].copy_from_slice(&x[upper..upper + s]);
+    v[..s].copy_from_slice(&x[lower..lower + s]);
     strips::add(x, upper, &v[..s]);
     strips::add_multiple(x, lower, &mut u[..s], t);
 }
@@ -48,11 +48,8 @@ pub fn couple(x: &mut [u8], p: Profile)
     requires { Accepted p × (length x.old ≡ p.n * p.a * p.s) }
     ensures { x.new ≡ coupled p x.old }
 {
-    let count = p.n * p.a;
-    let mut z: usize = 0;
-    while z < count {
+    for z in 0..p.n * p.a {
         couple_strip(x, p, z);
-        z += 1;
     }
 }
 
@@ -87,7 +84,7 @@ pub fn add_times(x: &mut [u8], strip: &[u8], c: u8)
     }
     let s = strip.len();
     let mut u = [0u8; Profile::MAX_STRIP];
-    strips::copy(&mut u[..s], strip, 0);
+    u[..s].copy_from_slice(strip);
     strips::add_multiple(x, 0, &mut u[..s], c);
 }
 
@@ -97,11 +94,12 @@ pub fn put_multiple(out: &mut [u8], strip: &[u8], d: u8)
     ensures { out.new ≡ multiple_of d strip.now }
 {
     if d == 1 {
-        strips::copy(out, strip, 0);
+        out.copy_from_slice(strip);
         return;
     }
-    strips::fill(out, 0);
-    strips::add_scaled(out, 0, strip, d);
+    for (b, x) in strip.iter().enumerate() {
+        out[b] = gf256::mul(d, *x);
+    }
 }
 
 // A base strip from the two stored strips of its pair: the sum of its own and the partner's times f, divided by the
@@ -113,7 +111,7 @@ pub fn uncouple(out: &mut [u8], own: &[u8], partner: &[u8], f: u8, d: u8)
 {
     let s = out.len();
     let mut sum = [0u8; Profile::MAX_STRIP];
-    strips::copy(&mut sum[..s], own, 0);
+    sum[..s].copy_from_slice(own);
     add_times(&mut sum[..s], partner, f);
     put_multiple(out, &sum[..s], d);
 }

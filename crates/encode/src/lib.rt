@@ -29,18 +29,13 @@ fn put_rows(array: &mut [u8], p: Profile, input: &[u8])
     ensures { array.new ≡ plain p input.now }
 {
     let k = p.k;
-    let n = p.n;
     let width = p.a * p.s;
-    let first = k * width;
     let mut denominators = [0u8; Profile::MAX_NODES];
     coefficients::data_denominators(&mut denominators[..k]);
-    strips::copy(&mut array[..first], input, 0);
-    let mut j = k;
-    while j < n {
-        let from = j * width;
-        let end = from + width;
-        put_parity(&mut array[from..end], p, input, &denominators[..k], j);
-        j += 1;
+    array[..input.len()].copy_from_slice(input);
+    for j in k..p.n {
+        let at = j * width;
+        put_parity(&mut array[at..at + width], p, input, &denominators[..k], j);
     }
 }
 

@@ -1,6 +1,4 @@
 -- `coefficients::differences` meets its contract. The invariant: the first i entries are the first i differences.
-use Prim.Native.Nat.{◌-◌}
-use lib.ListN.{length}
 use Rattle.lists.proofs.Written.{Written}
 use Rattle.document.specs.ByteField.{bytes, byte, number}
 use Rattle.coefficients.specs.Weights.{points}
@@ -8,6 +6,3 @@ use Rattle.coefficients.proofs.differences.Given as goal
 
 abbrev pub invariant-loop-i : goal.invariant-loop-i
 invariant-loop-i l = Written (λ j. number (bytes.add (byte l.x) (points l.nodes j))) l.i l.initial.out l.out
-
-abbrev pub decreases-loop-i : goal.decreases-loop-i
-decreases-loop-i l = length l.initial.out - l.i

@@ -5,54 +5,34 @@ use mathlib.Core.List.{◌++◌}
 use Prim.Native.Nat.{ℕ, ◌<◌}
 use native.Mathlib.Omega.{arith}
 use lib.ListN.{length, get_or, take, drop, replicate}
-use lib.Seq.{length-take-le}
 use Rattle.coefficients.specs.Weights.{differences_of, Divisors, weights_from}
-use Rattle.lists.proofs.Lent.{front_fits, front}
+use Rattle.lists.proofs.Lent.{front}
 use Rattle.coefficients.proofs.Lagrange.{differences_length, divisors, weights_from_lem, weights_none}
 use Rattle.coefficients.proofs.weights.Goals.{After-differences}
 use Rattle.coefficients.proofs.weights.Goals as goal
 
-pub slice_bounds-differences-end : goal.slice_bounds-differences-end
-slice_bounds-differences-end c = sym (length-take-le _ _ (omega arith))
-
-pub differences-requires : goal.differences-requires
-differences-requires c = length-take-le _ _ (omega arith)
-
--- The part that was lent has an entry for each node.
-written : (c : After-differences)
-    → length c.differences.new.out ≡ length c.args.nodes.now
-written c = ap length c.differences.ensures ∙ differences_length _ _
-
 -- The part that was lent holds the differences.
 lent : (c : After-differences)
     → let nodes = c.args.nodes.now in
-    take (length nodes) (c.differences.new.out ++ drop (length nodes) (replicate 24 0))
-    ≡ differences_of nodes c.args.at
-lent c = front c.differences.new.out _ (written c) ∙ c.differences.ensures
+    take (length nodes) (c.differences.new.out ++ drop (length nodes) (replicate 24 0)) ≡ differences_of nodes c.args.at
+lent c =
+    front c.differences.new.out _ (ap length c.differences.ensures ∙ differences_length _ _) ∙ c.differences.ensures
 
 -- The nodes are bytes.
-small : (c : After-differences) (i : ℕ)
-    → get_or c.args.nodes.now i 0 < 256
+small : (c : After-differences) (i : ℕ) → get_or c.args.nodes.now i 0 < 256
 small c i = omega (arith, c.type_inv.nodes i)
 
 -- There are some nodes.
 some : (c : After-differences) → 0 < length c.args.nodes.now
 some c = omega (arith, c.if-k-eq0.false)
 
-pub slice_bounds-d-end-2 : goal.slice_bounds-d-end-2
-slice_bounds-d-end-2 c = front_fits c.differences.new.out _ (written (goal.at.slice_bounds-d-end-2 c).After-differences)
-
-pub slice_bounds-weights_from-end : goal.slice_bounds-weights_from-end
-slice_bounds-weights_from-end c = sym (length-take-le _ _ ((front_fits c.differences.new.out _ (written (goal.at.slice_bounds-weights_from-end c).After-differences))))
-
-pub weights_from-requires : goal.weights_from-requires
-weights_from-requires c =
-    let ds = differences_of c.args.nodes.now c.args.at in record {
-      divisors = subst (λ xs. Divisors xs c.args.denominators.now) (sym (lent (goal.at.weights_from-requires c).After-differences))
-          (subst (λ ys. Divisors ds ys) (sym c.requires.denominators_value)
-          (divisors c.args.nodes.now (small (goal.at.weights_from-requires c).After-differences) c.requires.different c.args.at (omega arith) c.requires.outside (some (goal.at.weights_from-requires c).After-differences)));
-      out_len = c.requires.out_len ∙ (sym (length-take-le _ _ ((front_fits c.differences.new.out _ (written (goal.at.weights_from-requires c).After-differences)))));
-    }
+pub weights_from-requires-clause-divisors : goal.weights_from-requires-clause-divisors
+weights_from-requires-clause-divisors c =
+    let after = (goal.at.weights_from-requires-clause-divisors c).After-differences in
+    let ds = differences_of c.args.nodes.now c.args.at in
+    subst (λ xs. Divisors xs c.args.denominators.now) (sym (lent after))
+    (subst (λ ys. Divisors ds ys) (sym c.requires.denominators_value)
+    (divisors c.args.nodes.now (small after) c.requires.different c.args.at (omega arith) c.requires.outside (some after)))
 
 pub returns-then-k-eq0 : goal.returns-then-k-eq0
 returns-then-k-eq0 c =
@@ -60,5 +40,7 @@ returns-then-k-eq0 c =
 
 pub returns : goal.returns
 returns c =
-    c.weights_from.ensures.0 ∙ ap₂ weights_from (lent (goal.at.returns c).After-differences) c.requires.denominators_value
-    ∙ weights_from_lem c.args.nodes.now (small (goal.at.returns c).After-differences) c.requires.different c.args.at (omega arith) c.requires.outside (some (goal.at.returns c).After-differences)
+    let after = (goal.at.returns c).After-differences in
+    c.weights_from.ensures.0 ∙ ap₂ weights_from (lent after) c.requires.denominators_value
+    ∙ weights_from_lem c.args.nodes.now (small after) c.requires.different c.args.at (omega arith) c.requires.outside
+    (some after)

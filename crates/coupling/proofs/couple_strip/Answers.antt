@@ -5,21 +5,16 @@ use native.Mathlib.Omega.{arith}
 use lib.ListN.{length}
 use Rattle.document.specs.declared.Profile.{Profile}
 use Rattle.document.specs.declared.Place.{Place}
-use Rattle.document.specs.Places.{partner_of, Within}
+use Rattle.document.specs.Places.{partner_of}
 use Rattle.document.specs.ByteField.{number}
 use Rattle.document.specs.Encoding as E
 use Rattle.document.specs.Encoding.{constant_of}
-use Rattle.document.proofs.Bounds.{A>0, room, place_within, partner_within}
+use Rattle.document.proofs.Bounds.{A>0, room}
 use Rattle.coupling.specs.Pairs.{partner_number}
 use Rattle.coupling.proofs.Partners.{partner_before, strip_start_lem, partner_start, no_upper}
 use Rattle.coupling.proofs.Coupled.{upper_pair}
 use Rattle.coupling.proofs.couple_strip.Goals.{After-place-q, After-start-lower, Then-i-l}
 use Rattle.coupling.proofs.couple_strip.Goals as goal
-
--- strip z is a strip of the array
-within : (c : After-place-q) → Within c.args.p c.place-q.result
-within c =
-    rw c.place-q.ensures (place_within c.args.p c.requires.0 c.args.z c.requires.2)
 
 -- strip z is the upper one of its pair
 upper : (c : Then-i-l)
@@ -53,36 +48,23 @@ module _ (c : After-start-lower) where
   inside : z * p.s + p.s ≤ length c.args.x.now
   inside = rw c.requires.1 (room z (p.n * p.a) p.s c.requires.2)
 
-pub partner-r-requires : goal.partner-r-requires
-partner-r-requires c =
-    (c.requires.0, within (goal.at.partner-r-requires c).After-place-q)
-
-pub start-upper-requires : goal.start-upper-requires
-start-upper-requires c =
-    (c.requires.0, within (goal.at.start-upper-requires c).After-place-q)
-
-pub start-lower-requires : goal.start-lower-requires
-start-lower-requires c = (
-  c.requires.0,
-  rw c.partner-r.ensures (partner_within c.args.p c.requires.0 c.place-q.result (within (goal.at.start-lower-requires c).After-place-q)),
-)
-
 pub couple_pair-requires : goal.couple_pair-requires
-couple_pair-requires c = (
-  c.requires.0.short,
-  omega (arith, upper_start (goal.at.couple_pair-requires c).After-start-lower, lower_start (goal.at.couple_pair-requires c).After-start-lower, apart (goal.at.couple_pair-requires c).After-start-lower),
-  omega (arith, upper_start (goal.at.couple_pair-requires c).After-start-lower, inside (goal.at.couple_pair-requires c).After-start-lower),
-)
+couple_pair-requires c =
+    let w = (goal.at.couple_pair-requires c).After-start-lower in (
+      c.requires.0.short,
+      omega (arith, upper_start w, lower_start w, apart w),
+      omega (arith, upper_start w, inside w),
+    )
 
 pub returns-then-i-l : goal.returns-then-i-l
 returns-then-i-l c =
+    let w = (goal.at.returns-then-i-l c).After-start-lower in
     let placed = c.place-q.ensures in
-    upper_pair (p (goal.at.returns-then-i-l c).After-start-lower) (z (goal.at.returns-then-i-l c).After-start-lower) (upper (goal.at.returns-then-i-l c).Then-i-l)
-    c.args.x.now c.couple_pair.ensures
+    upper_pair (p w) (z w) (upper (goal.at.returns-then-i-l c).Then-i-l) c.args.x.now c.couple_pair.ensures
     (c.constant-t.ensures
-    ∙ ap₂ (λ (r o : Place). number (constant_of (p (goal.at.returns-then-i-l c).After-start-lower) r.row.0 o.row.0))
-    (c.partner-r.ensures ∙ ap (partner_of (p (goal.at.returns-then-i-l c).After-start-lower).a) placed) placed)
-    (upper_start (goal.at.returns-then-i-l c).After-start-lower) (lower_start (goal.at.returns-then-i-l c).After-start-lower)
+    ∙ ap₂ (λ (r o : Place). number (constant_of (p w) r.row.0 o.row.0))
+    (c.partner-r.ensures ∙ ap (partner_of (p w).a) placed) placed)
+    (upper_start w) (lower_start w)
 
 pub returns-else-i-l : goal.returns-else-i-l
 returns-else-i-l c =

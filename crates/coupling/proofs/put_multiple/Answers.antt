@@ -1,24 +1,29 @@
--- `coupling::put_multiple` meets its contract.
-use mathlib.Core.Path.{sym, ap, ◌∙◌}
+-- `coupling::put_multiple` meets its contract. The invariant: the first b bytes are multiplied.
+use mathlib.Core.Path.{ap, ◌∙◌}
 use native.Mathlib.Omega.{arith}
-use lib.ListN.{length}
-use Rattle.lists.proofs.Listed.{listed_length}
-use Rattle.strips.specs.Strips.{added_scaled}
-use Rattle.strips.proofs.Strip.{strip_all}
-use Rattle.coupling.proofs.Multiples.{multiple_one, multiple_added}
+use lib.ListN.{get_or}
+use Rattle.lists.specs.Listed.{listed}
+use Rattle.lists.proofs.Written.{written_none, written_all, written_more}
+use Rattle.gf256.specs.Field.{◌⊗◌}
+use Rattle.coupling.specs.Pairs.{multiple_of}
+use Rattle.coupling.proofs.Multiples.{multiple_one}
 use Rattle.coupling.proofs.put_multiple.Goals as goal
 
 pub returns-then-d-eq1 : goal.returns-then-d-eq1
 returns-then-d-eq1 c =
-    c.copy.ensures ∙ strip_all _ _ c.requires
-    ∙ multiple_one c.args.d c.args.strip.now c.if-d-eq1.true
-    (λ b. omega (arith, c.type_inv.strip b))
+    c.copy_from_slice.ensures.after
+    ∙ multiple_one c.args.d c.args.strip.now c.if-d-eq1.true (λ b. omega (arith, c.type_inv.strip b))
 
-pub add_scaled-requires : goal.add_scaled-requires
-add_scaled-requires c =
-    omega (arith, ap length c.fill.ensures ∙ listed_length (length c.args.out.now) _, c.requires)
+pub loop-b-init : goal.loop-b-init
+loop-b-init c = written_none _ _
+
+pub loop-b-preserved : goal.loop-b-preserved
+loop-b-preserved c =
+    let l = c.loop-b in written_more _ l.b c.args.out.now l.out l.invariant (omega arith) _ c.mul.ensures
 
 pub returns : goal.returns
+unfolding multiple_of
 returns c =
-    c.add_scaled.ensures ∙ ap (added_scaled c.args.d 0 c.args.strip.now) c.fill.ensures
-    ∙ multiple_added c.args.d (length c.args.out.now) c.args.strip.now (sym c.requires)
+    let l = c.loop-b in
+    written_all _ l.b c.args.out.now l.out l.invariant (omega arith)
+    ∙ ap (λ n. listed n (λ b. c.args.d ⊗ get_or c.args.strip.now b 0)) c.requires
