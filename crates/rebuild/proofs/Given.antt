@@ -2,7 +2,7 @@
 use mathlib.Core.Path.{◌≡◌, sym, ap, ap₂, ◌∙◌}
 use mathlib.Core.Bool.{true, false}
 use mathlib.Core.List.{List, [], ◌∷◌, ◌++◌}
-use Prim.Native.Nat.{ℕ, ◌+◌, ◌*◌, ◌%◌, ◌<◌}
+use Prim.Native.Nat.{ℕ, ◌+◌, ◌-◌, ◌*◌, ◌%◌, ◌≤◌, ◌<◌}
 use native.Mathlib.Nat.{add-zero}
 use native.Mathlib.Omega.{arith}
 use lib.ListN.{length, get_or, take, drop, length-append}
@@ -11,6 +11,7 @@ use Rattle.lists.specs.Each.{Distinct}
 use Rattle.gf256.specs.Field as G
 use Rattle.strips.specs.Strips.{strip_at, added_scaled}
 use Rattle.strips.proofs.Added.{added_strips}
+use Rattle.strips.proofs.Strip.{strip_part}
 use Rattle.document.specs.declared.Profile.{Profile}
 use Rattle.document.specs.declared.Node.{Node}
 use Rattle.document.specs.declared.Place.{Place}
@@ -28,7 +29,7 @@ use Rattle.document.proofs.Chosen.{position_at}
 use Rattle.plan.specs.Steps.{places_at, places_of}
 use Rattle.plan.proofs.Places.{single, pair, split_places}
 use Rattle.plan.proofs.Walked.{plan_places}
-use Rattle.rebuild.specs.Folded.{folded_of, NodeAt}
+use Rattle.rebuild.specs.Folded.{folded_of, StripsFit, NodeAt}
 use Rattle.rebuild.proofs.Folded.{folded_single, folded_pair, folded_one}
 
 -- how many places are read at a node
@@ -38,6 +39,28 @@ module _ (A : ℕ) (f : Node) (j m : ℕ) where
 
   pub two_places : is_off_diagonal A f j ≡ true → m + 2 ≡ m + length (places_at A f j)
   two_places e = ap (λ (qs : List Place). m + length qs) (sym (pair A f j e))
+
+-- the strips that are read at node j lie within src, and are its parts there
+module _ (p : Profile) (f : Node) (src : List ℕ) (first stride : ℕ) (fit : StripsFit p f src first stride)
+    (j m : ℕ) (at : NodeAt p f j m) where
+  open p use {a as A, s as S}
+
+  abbrev part : ℕ → List ℕ
+  part from = take (from + S - from) (drop from src)
+
+  pub own_within : first + m * stride + S ≤ length src
+  unfolding places_at
+  own_within = fit.reach m (omega (arith, at.inside))
+
+  pub own_part : part (first + m * stride) ≡ strip_at src (first + m * stride) S
+  own_part = strip_part src (first + m * stride) S own_within
+
+  module _ (e : is_off_diagonal A f j ≡ true) where
+    pub partner_within : first + (m + 1) * stride + S ≤ length src
+    partner_within = fit.reach (m + 1) (omega (arith, two_places A f j m e, at.inside))
+
+    pub partner_part : part (first + (m + 1) * stride) ≡ strip_at src (first + (m + 1) * stride) S
+    partner_part = strip_part src (first + (m + 1) * stride) S partner_within
 
 module _ (p : Profile) (acc : Accepted p) (f : Node) where
   open p use {n, k, a as A, s as S}

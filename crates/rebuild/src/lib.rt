@@ -34,14 +34,14 @@ fn fold_strip(
     ensures { (result ≡ m + length (places_at p.a f j))
         × (out.new ≡ folded_of p f (given_at (planned p f) src.now first stride) (j ∷ [])) }
 {
-    strips::copy(out, src, first + m * stride);
+    let own = first + m * stride;
+    out.copy_from_slice(&src[own..own + p.s]);
     if plan::in_step(Step::OffDiagonal, p, f, j) {
-        let from = first + (m + 1) * stride;
-        let end = from + p.s;
+        let partner = first + (m + 1) * stride;
         let c = f.0 % p.a;
         let l = j % p.a;
         let t = p.factor(Row(c), l);
-        coupling::add_times(out, &src[from..end], t);
+        coupling::add_times(out, &src[partner..partner + p.s], t);
         return m + 2;
     }
     m + 1
@@ -63,22 +63,10 @@ fn fold_strips(
         ≡ folded_of p f (given_at (planned p f) src.now first stride) nodes.now }
 {
     let s = p.s;
-    let mut m: usize = 0;
-    let mut i: usize = 0;
-    while i < nodes.len() {
-        let from = i * s;
-        let end = from + s;
-        m = fold_strip(
-            &mut out[from..end],
-            src,
-            first,
-            stride,
-            p,
-            f,
-            nodes[i] as usize,
-            m,
-        );
-        i += 1;
+    let mut m = 0;
+    for (i, node) in nodes.iter().enumerate() {
+        let strip = &mut out[i * s..i * s + s];
+        m = fold_strip(strip, src, first, stride, p, f, usize::from(*node), m);
     }
 }
 
@@ -88,11 +76,8 @@ fn pair_determinants(p: Profile, f: Node, nodes: &[u8], out: &mut [u8])
     ensures { out.new ≡ determinants_of p f nodes.now }
 {
     let c = f.0 % p.a;
-    let mut q = 0;
-    while q < nodes.len() {
-        let d = coupling::determinant(p, Row(c), nodes[q] as usize % p.a);
-        out[q] = d;
-        q += 1;
+    for (q, node) in nodes.iter().enumerate() {
+        out[q] = coupling::determinant(p, Row(c), usize::from(*node) % p.a);
     }
 }
 
@@ -223,18 +208,14 @@ fn put_rows(column: &mut [u8], folded: &[u8], p: Profile, f: Node, own: &[u8], c
     ensures { column.new ≡ rows_of p f own.now chosen.now folded.now }
 {
     let k = p.k;
-    let a = p.a;
-    let s = p.s;
     let mut denominators = [0u8; Profile::MAX_NODES];
     coefficients::denominators(chosen, &mut denominators[..k]);
     let mut determinants = [0u8; Profile::MAX_NODES];
     pair_determinants(p, f, chosen, &mut determinants[..k]);
-    let mut row: usize = 0;
-    while row < a {
-        let from = row * s;
-        let end = from + s;
+    let s = p.s;
+    for row in 0..p.a {
         put_row(
-            &mut column[from..end],
+            &mut column[row * s..row * s + s],
             folded,
             p,
             f,
@@ -244,7 +225,6 @@ fn put_rows(column: &mut [u8], folded: &[u8], p: Profile, f: Node, own: &[u8], c
             &denominators[..k],
             &determinants[..k],
         );
-        row += 1;
     }
 }
 

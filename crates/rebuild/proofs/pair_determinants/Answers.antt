@@ -12,13 +12,10 @@ use Rattle.rebuild.proofs.pair_determinants.Goals as goal
 pub loop-q-init : goal.loop-q-init
 loop-q-init c = written_none _ _
 
-pub overflow_cast-nodes : goal.overflow_cast-nodes
-overflow_cast-nodes c = omega (arith, c.type_inv.nodes c.loop-q.q)
-
 pub loop-q-preserved : goal.loop-q-preserved
 loop-q-preserved c =
     let l = c.loop-q in
-    written_more _ l.q c.args.out.now l.out l.invariant (omega arith) _ c.determinant-d.ensures
+    written_more _ l.q c.args.out.now l.out l.invariant (omega arith) _ (rw c.from.ensures at c.determinant.ensures)
 
 pub returns : goal.returns
 unfolding determinants_of
