@@ -115,7 +115,7 @@ fn rebuild_input(input: &[u8], p: Numbers, column: &mut [u8]) -> Result<usize, R
 {
     let lost = byte_in(input, 6) as usize;
     let r = recording(input);
-    let head = lists::least(input.len(), WANTED);
+    let head = input.len().min(WANTED);
     rebuild::rebuild(p, lost, r, &input[head..], column)
 }
 
