@@ -1,4 +1,5 @@
 pub mod Refusals
+pub mod Accepted
 pub mod Profile
 pub mod Places
 pub mod ByteField

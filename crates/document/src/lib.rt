@@ -5,11 +5,13 @@
 ghost use Rattle.std.specs.Prelude.{◌≡◌, ◌/◌, ◌%◌, ◌<◌};
 ghost use Rattle.document.specs.Refusals.{number_of, index_of};
 ghost use Rattle.document.specs.ByteField.{number};
-ghost use Rattle.document.specs.Profile.{Accepted, shape_accepted, edition_accepted, checked_of};
+ghost use Rattle.document.specs.Profile.{shape_accepted, edition_accepted, checked_of};
 ghost use Rattle.document.specs.Places.{place, partner_of, Within};
 ghost use Rattle.document.specs.Message.{recording_bytes};
 ghost use Rattle.document.specs.Encoding;
 ghost use Rattle.document.specs.Encoding.{constant_of, factor_at};
+
+use std::marker::Model;
 
 // The numbers of a profile as they are handed in: any numbers whatever.
 #[derive(Clone, Copy)]
@@ -33,6 +35,18 @@ pub struct Profile {
     pub t: u8,
     pub s: usize,
     pub edition: u8,
+}
+
+impl Model for Profile {
+    ghost use Rattle.document.specs.Accepted as spec;
+
+    ghost Value = { spec.Profile };
+
+    ghost view = { λ p. record { n = p.n; k = p.k; a = p.a; t = p.t; s = p.s; edition = p.edition } };
+
+    ghost invariant = { λ p. spec.Accepted (record { n = p.n; k = p.k; a = p.a; t = p.t; s = p.s; edition = p.edition }) };
+
+    ghost inverse = { λ p. record { n = p.n; k = p.k; a = p.a; t = p.t; s = p.s; edition = p.edition } };
 }
 
 // A node's number. A row's number is another type: staff read the two off different labels.
@@ -250,7 +264,6 @@ impl Profile {
 
     // The place of strip z in memory's order.
     pub fn place(self, z: usize) -> Place
-        requires { Accepted self }
         ensures { result ≡ place (z / self.a) (z % self.a) }
     {
         Place {
@@ -261,7 +274,7 @@ impl Profile {
 
     // The place coupled with q.
     pub fn partner(self, q: Place) -> Place
-        requires { Accepted self × Within self q }
+        requires { Within self q }
         ensures { result ≡ partner_of self.a q }
     {
         let j = q.node.0;
@@ -274,7 +287,7 @@ impl Profile {
 
     // Where the strip of q starts in memory.
     pub fn start(self, q: Place) -> usize
-        requires { Accepted self × Within self q }
+        requires { Within self q }
         ensures { result ≡ Encoding.start self q }
     {
         (q.node.0 * self.a + q.row.0) * self.s
@@ -283,7 +296,6 @@ impl Profile {
     // The coupling constant of the lower strip at a row and a local column: the only function that computes with a
     // profile's t.
     pub fn constant(self, i: Row, l: usize) -> u8
-        requires { Accepted self }
         ensures { result ≡ number (constant_of self i.0 l) }
     {
         self.t
@@ -291,7 +303,6 @@ impl Profile {
 
     // By what the partner is multiplied in the strip at a row and a local column.
     pub fn factor(self, i: Row, l: usize) -> u8
-        requires { Accepted self }
         ensures { result ≡ number (factor_at self i.0 l) }
     {
         let row = i.0;

@@ -9,6 +9,7 @@ use Rattle.document.specs.Places.{partner_of, Within}
 use Rattle.document.specs.ByteField.{number}
 use Rattle.document.specs.Encoding as E
 use Rattle.document.specs.Encoding.{constant_of}
+use Rattle.document.proofs.Fields.{fields, is_accepted}
 use Rattle.document.proofs.Bounds.{A>0, room, place_within, partner_within}
 use Rattle.coupling.specs.Pairs.{partner_number}
 use Rattle.coupling.proofs.Partners.{partner_before, strip_start_lem, partner_start, no_upper}
@@ -17,16 +18,16 @@ use Rattle.coupling.proofs.couple_strip.Goals.{After-place-q, After-start-lower,
 use Rattle.coupling.proofs.couple_strip.Goals as goal
 
 -- strip z is a strip of the array
-within : (c : After-place-q) → Within c.args.p c.place-q.result
+within : (c : Then-i-l) → Within c.args.p c.place-q.result
 within c =
-    rw c.place-q.ensures (place_within c.args.p c.requires.0 c.args.z c.requires.2)
+    rw c.place-q.ensures (place_within c.args.p (is_accepted c.p.view_is c.p.invariant) c.args.z c.requires.1)
 
 -- strip z is the upper one of its pair
 upper : (c : Then-i-l)
     → c.args.z % c.args.p.a
     < c.args.z / c.args.p.a
     % c.args.p.a
-upper c = rw c.place-q.ensures at c.if-i-l.true
+upper c = rw (c.place-q.ensures, fields c.p.view_is) at c.if-i-l.true
 
 -- where the two strips start
 module _ (c : After-start-lower) where
@@ -48,28 +49,24 @@ module _ (c : After-start-lower) where
   apart : partner_number p.a z * p.s + p.s ≤ z * p.s
   apart =
       room (partner_number p.a z) z p.s
-      (partner_before p.a (A>0 p c.requires.0) z ((rw c.place-q.ensures at c.if-i-l.true)))
+      (partner_before p.a (A>0 p (is_accepted c.p.view_is c.p.invariant)) z ((rw (c.place-q.ensures, fields c.p.view_is) at c.if-i-l.true)))
 
   inside : z * p.s + p.s ≤ length c.args.x.now
-  inside = rw c.requires.1 (room z (p.n * p.a) p.s c.requires.2)
+  inside = rw c.requires.0 (room z (p.n * p.a) p.s c.requires.1)
 
 pub partner-r-requires : goal.partner-r-requires
-partner-r-requires c =
-    (c.requires.0, within (goal.at.partner-r-requires c).After-place-q)
+partner-r-requires c = within (goal.at.partner-r-requires c).Then-i-l
 
 pub start-upper-requires : goal.start-upper-requires
-start-upper-requires c =
-    (c.requires.0, within (goal.at.start-upper-requires c).After-place-q)
+start-upper-requires c = within (goal.at.start-upper-requires c).Then-i-l
 
 pub start-lower-requires : goal.start-lower-requires
-start-lower-requires c = (
-  c.requires.0,
-  rw c.partner-r.ensures (partner_within c.args.p c.requires.0 c.place-q.result (within (goal.at.start-lower-requires c).After-place-q)),
-)
+start-lower-requires c =
+    rw c.partner-r.ensures (partner_within c.args.p (is_accepted c.p.view_is c.p.invariant) c.place-q.result (within (goal.at.start-lower-requires c).Then-i-l))
 
 pub couple_pair-requires : goal.couple_pair-requires
-couple_pair-requires c = (
-  c.requires.0.short,
+couple_pair-requires c = rw (fields c.p-then-i-l.view_is) (
+  (is_accepted c.p.view_is c.p.invariant).short,
   omega (arith, upper_start (goal.at.couple_pair-requires c).After-start-lower, lower_start (goal.at.couple_pair-requires c).After-start-lower, apart (goal.at.couple_pair-requires c).After-start-lower),
   omega (arith, upper_start (goal.at.couple_pair-requires c).After-start-lower, inside (goal.at.couple_pair-requires c).After-start-lower),
 )
@@ -78,7 +75,7 @@ pub returns-then-i-l : goal.returns-then-i-l
 returns-then-i-l c =
     let placed = c.place-q.ensures in
     upper_pair (p (goal.at.returns-then-i-l c).After-start-lower) (z (goal.at.returns-then-i-l c).After-start-lower) (upper (goal.at.returns-then-i-l c).Then-i-l)
-    c.args.x.now c.couple_pair.ensures
+    c.args.x.now (rw (fields c.p-then-i-l.view_is) at c.couple_pair.ensures)
     (c.constant-t.ensures
     ∙ ap₂ (λ (r o : Place). number (constant_of (p (goal.at.returns-then-i-l c).After-start-lower) r.row.0 o.row.0))
     (c.partner-r.ensures ∙ ap (partner_of (p (goal.at.returns-then-i-l c).After-start-lower).a) placed) placed)
@@ -86,5 +83,5 @@ returns-then-i-l c =
 
 pub returns-else-i-l : goal.returns-else-i-l
 returns-else-i-l c =
-    let h = rw c.place-q.ensures at c.if-i-l.false in
+    let h = rw (c.place-q.ensures, fields c.p.view_is) at c.if-i-l.false in
     sym (no_upper c.args.p c.args.z h _ c.args.x.now)
