@@ -10,7 +10,7 @@
 --                               with p as a profile if none does
 -- checked_of p                 : the profile with the numbers p, or its first refusal
 -- checked_answer c             : the same as the answer of any call
-use Rattle.std.specs.Prelude.{◌≡◌, Bool, ◌&&◌, not, List, [], ◌∷◌, ℕ, ◌-◌, ◌%◌, ◌≤◌, ◌<◌, eqb, leb, ltb}
+use Rattle.std.specs.Prelude.{Bool, ◌&&◌, not, List, [], ◌∷◌, ℕ, ◌-◌, ◌%◌, eqb, leb, ltb}
 use Rattle.document.specs.declared.Numbers.{Numbers}
 pub use Rattle.document.specs.Accepted.{Profile, max_nodes, max_rows, max_strip, ShapeAccepted, Accepted}
 use Rattle.document.specs.declared.Refusal.{Refusal}

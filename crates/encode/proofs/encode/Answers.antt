@@ -1,12 +1,8 @@
 -- `encode::encode` meets its contract: the head of a call.
-use mathlib.Core.Path.{sym, ◌∙◌}
+use mathlib.Core.Path.{◌∙◌}
 use Rattle.document.specs.Encoding.{encode_of}
-use Rattle.document.proofs.Accepts.{accepted, rejected, passed}
+use Rattle.document.proofs.Accepts.{rejected, passed}
 use Rattle.encode.proofs.encode.Goals as goal
-
-pub encode_with-requires : goal.encode_with-requires
-encode_with-requires c =
-    accepted _ (sym c.new-checked.ensures ∙ c.in-Passed.is)
 
 pub returns-in-Rejected : goal.returns-in-Rejected
 unfolding encode_of
