@@ -1,20 +1,15 @@
--- What is known where a function reads a field of a profile: `c.p.inside` has the fields of the profile `c.args.p`, by
--- `c.p.view_is`, and they are accepted, by `c.p.invariant`.
+-- What is known where a function has read a field of a profile p: `c.p.inside` has the fields that hold the numbers
+-- `c.args.p`, and these are accepted.
 use mathlib.Core.Path.{◌≡◌, ap, subst}
 use Rattle.document.specs.declared.Profile.TheInside.{Inside}
 use Rattle.document.specs.Accepted.{Profile, Accepted}
+use Rattle.document.specs.Fields.{numbers_in, fields_of}
 
--- the numbers that are in the fields
-abbrev pub numbers_in : Inside → Profile
-numbers_in x = record { n = x.n; k = x.k; a = x.a; t = x.t; s = x.s; edition = x.edition }
-
--- the fields that hold the numbers
-abbrev pub fields_of : Profile → Inside
-fields_of p = record { n = p.n; k = p.k; a = p.a; t = p.t; s = p.s; edition = p.edition }
-
+-- of `c.p.view_is`
 module _ {x : Inside} {p : Profile} (e : numbers_in x ≡ p) where
   pub fields : x ≡ fields_of p
   fields = ap fields_of e
 
+  -- of `c.p.invariant`
   pub is_accepted : Accepted (numbers_in x) → Accepted p
   is_accepted = subst Accepted e

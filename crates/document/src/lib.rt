@@ -25,8 +25,7 @@ pub struct Numbers {
 }
 
 // The same as a profile: nodes, data nodes, rows, coupling constant, strip length in bytes, and the edition, which says
-// how a plan walks and how field 01 is written. `Profile::new` hands out accepted ones only; a function that rests on
-// that asks that it is `Accepted`.
+// how a plan walks and how field 01 is written. There are accepted ones only: who writes one down must prove it.
 #[derive(Clone, Copy)]
 pub struct Profile {
     pub n: usize,
@@ -37,16 +36,19 @@ pub struct Profile {
     pub edition: u8,
 }
 
+// Clauses see a profile as its numbers, and every profile is accepted.
 impl Model for Profile {
     ghost use Rattle.document.specs.Accepted as spec;
 
     ghost Value = { spec.Profile };
 
-    ghost view = { λ p. record { n = p.n; k = p.k; a = p.a; t = p.t; s = p.s; edition = p.edition } };
+    ghost use Rattle.document.specs.Fields.{numbers_in, fields_of};
 
-    ghost invariant = { λ p. spec.Accepted (record { n = p.n; k = p.k; a = p.a; t = p.t; s = p.s; edition = p.edition }) };
+    ghost view = { numbers_in };
 
-    ghost inverse = { λ p. record { n = p.n; k = p.k; a = p.a; t = p.t; s = p.s; edition = p.edition } };
+    ghost invariant = { λ p. spec.Accepted (numbers_in p) };
+
+    ghost inverse = { fields_of };
 }
 
 // A node's number. A row's number is another type: staff read the two off different labels.
