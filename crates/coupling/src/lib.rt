@@ -5,7 +5,7 @@ ghost use Rattle.std.specs.Prelude.{◌≡◌, ◌+◌, ◌*◌, ◌<◌, ◌≤
 ghost use Rattle.algebra.specs.Coupling.{pair};
 ghost use Rattle.strips.specs.Strips.{added_scaled};
 ghost use Rattle.document.specs.ByteField.{bytes, number};
-ghost use Rattle.document.specs.Profile.{max_strip, Accepted};
+ghost use Rattle.document.specs.Profile.{max_strip};
 ghost use Rattle.document.specs.Encoding.{factor_at, coupled};
 ghost use Rattle.coupling.specs.Pairs.{coupled_strips, pair_coupled, multiple_of, uncoupled_strip};
 
@@ -27,7 +27,7 @@ fn couple_pair(x: &mut [u8], upper: usize, lower: usize, s: usize, t: u8)
 
 // Couples strip z with its partner, where z is the upper one of the two; otherwise the array stays as it is.
 fn couple_strip(x: &mut [u8], p: Profile, z: usize)
-    requires { Accepted p × (length x.old ≡ p.n * p.a * p.s) × (z < p.n * p.a) }
+    requires { (length x.old ≡ p.n * p.a * p.s) × (z < p.n * p.a) }
     ensures { x.new ≡ pair_coupled p z x.old }
 {
     let q = p.place(z);
@@ -45,7 +45,7 @@ fn couple_strip(x: &mut [u8], p: Profile, z: usize)
 
 // Couples the rows of an array of any bytes, pair by pair in place.
 pub fn couple(x: &mut [u8], p: Profile)
-    requires { Accepted p × (length x.old ≡ p.n * p.a * p.s) }
+    requires { (length x.old ≡ p.n * p.a * p.s) }
     ensures { x.new ≡ coupled p x.old }
 {
     for z in 0..p.n * p.a {
@@ -55,7 +55,6 @@ pub fn couple(x: &mut [u8], p: Profile)
 
 // The determinant of the strip at a row and a local column and its partner: one of the two factors is 1, or both are 0.
 pub fn determinant(p: Profile, i: Row, l: usize) -> u8
-    requires { Accepted p }
     ensures { result ≡ number (pair bytes (factor_at p) i.0 l) }
 {
     let row = i.0;

@@ -3,6 +3,7 @@ pub mod Decides
 pub mod Refusals
 pub mod Accepts
 pub mod Bounds
+pub mod Fields
 pub mod Ceilings
 pub mod Arrays
 pub mod Rows

@@ -1,4 +1,6 @@
 pub mod Refusals
+pub mod Accepted
+pub mod Fields
 pub mod Profile
 pub mod Places
 pub mod ByteField

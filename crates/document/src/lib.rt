@@ -5,11 +5,13 @@
 ghost use Rattle.std.specs.Prelude.{◌≡◌, ◌/◌, ◌%◌, ◌<◌};
 ghost use Rattle.document.specs.Refusals.{number_of, index_of};
 ghost use Rattle.document.specs.ByteField.{number};
-ghost use Rattle.document.specs.Profile.{Accepted, shape_accepted, edition_accepted, checked_of};
+ghost use Rattle.document.specs.Profile.{shape_accepted, edition_accepted, checked_of};
 ghost use Rattle.document.specs.Places.{place, partner_of, Within};
 ghost use Rattle.document.specs.Message.{recording_bytes};
 ghost use Rattle.document.specs.Encoding;
 ghost use Rattle.document.specs.Encoding.{constant_of, factor_at};
+
+use std::marker::Model;
 
 // The numbers of a profile as they are handed in: any numbers whatever.
 #[derive(Clone, Copy, PartialEq, Eq)]
@@ -23,8 +25,7 @@ pub struct Numbers {
 }
 
 // The same as a profile: nodes, data nodes, rows, coupling constant, strip length in bytes, and the edition, which says
-// how a plan walks and how field 01 is written. `Profile::new` hands out accepted ones only; a function that rests on
-// that asks that it is `Accepted`.
+// how a plan walks and how field 01 is written. There are accepted ones only: who writes one down must prove it.
 #[derive(Clone, Copy, PartialEq, Eq)]
 pub struct Profile {
     pub n: usize,
@@ -33,6 +34,21 @@ pub struct Profile {
     pub t: u8,
     pub s: usize,
     pub edition: u8,
+}
+
+// Clauses see a profile as its numbers, and every profile is accepted.
+impl Model for Profile {
+    ghost use Rattle.document.specs.Accepted as spec;
+
+    ghost Value = { spec.Profile };
+
+    ghost use Rattle.document.specs.Fields.{numbers_in, fields_of};
+
+    ghost view = { numbers_in };
+
+    ghost invariant = { λ p. spec.Accepted (numbers_in p) };
+
+    ghost inverse = { fields_of };
 }
 
 // A node's number. A row's number is another type: staff read the two off different labels.
@@ -229,7 +245,6 @@ impl Profile {
 
     // The place of strip z in memory's order.
     pub fn place(self, z: usize) -> Place
-        requires { Accepted self }
         ensures { result ≡ place (z / self.a) (z % self.a) }
     {
         Place {
@@ -240,7 +255,7 @@ impl Profile {
 
     // The place coupled with q.
     pub fn partner(self, q: Place) -> Place
-        requires { Accepted self × Within self q }
+        requires { Within self q }
         ensures { result ≡ partner_of self.a q }
     {
         let j = q.node.0;
@@ -253,7 +268,7 @@ impl Profile {
 
     // Where the strip of q starts in memory.
     pub fn start(self, q: Place) -> usize
-        requires { Accepted self × Within self q }
+        requires { Within self q }
         ensures { result ≡ Encoding.start self q }
     {
         (q.node.0 * self.a + q.row.0) * self.s
@@ -262,7 +277,6 @@ impl Profile {
     // The coupling constant of the lower strip at a row and a local column: the only function that computes with a
     // profile's t.
     pub fn constant(self, i: Row, l: usize) -> u8
-        requires { Accepted self }
         ensures { result ≡ number (constant_of self i.0 l) }
     {
         self.t
@@ -270,7 +284,6 @@ impl Profile {
 
     // By what the partner is multiplied in the strip at a row and a local column.
     pub fn factor(self, i: Row, l: usize) -> u8
-        requires { Accepted self }
         ensures { result ≡ number (factor_at self i.0 l) }
     {
         let row = i.0;

@@ -2,7 +2,6 @@
 #![tactic(auto)]
 
 ghost use Rattle.std.specs.Prelude.{◌≡◌, ◌*◌, ◌<◌, ◌≤◌, length};
-ghost use Rattle.document.specs.Profile.{Accepted};
 ghost use Rattle.document.specs.Encoding.{base_at, column_of, plain, encode_with, encode_of};
 ghost use Rattle.coefficients.specs.Data.{data_denominators};
 
@@ -11,7 +10,7 @@ use document::{Numbers, Profile, Refusal};
 // The column of a parity node: the data columns, each times its weight, added up. Every row has the same weights, so a
 // whole column is one strip to the row code.
 fn put_parity(column: &mut [u8], p: Profile, input: &[u8], denominators: &[u8], j: usize)
-    requires accepted { Accepted p × (p.k ≤ j) × (j < p.n) }
+    requires parity { (p.k ≤ j) × (j < p.n) }
     requires input_len { (length input.now ≡ p.k * p.a * p.s) × (length column.old ≡ p.a * p.s) }
     requires denominators_value { denominators.now ≡ data_denominators p.k }
     ensures { column.new ≡ column_of p (base_at p input.now) j }
@@ -24,8 +23,7 @@ fn put_parity(column: &mut [u8], p: Profile, input: &[u8], denominators: &[u8], 
 
 // The rows of base symbols: the data's columns as they are, then the parity columns.
 fn put_rows(array: &mut [u8], p: Profile, input: &[u8])
-    requires accepted { Accepted p }
-    requires input_len { (length input.now ≡ p.k * p.a * p.s) × (length array.old ≡ p.n * p.a * p.s) }
+    requires { (length input.now ≡ p.k * p.a * p.s) × (length array.old ≡ p.n * p.a * p.s) }
     ensures { array.new ≡ plain p input.now }
 {
     let k = p.k;
@@ -41,7 +39,6 @@ fn put_rows(array: &mut [u8], p: Profile, input: &[u8])
 
 // Encodes with an accepted profile.
 fn encode_with(p: Profile, input: &[u8], array: &mut [u8]) -> Result<usize, Refusal>
-    requires { Accepted p }
     ensures { (result, array.new) ≡ encode_with p input.now array.old }
 {
     if input.len() != p.k * p.a * p.s {

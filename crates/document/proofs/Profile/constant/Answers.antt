@@ -7,4 +7,4 @@ use Rattle.document.proofs.Profile.constant.Goals as goal
 
 pub returns : goal.returns
 unfolding constant_of
-returns c = sym (number_byte c.args.self.t (omega (arith, c.requires)))
+returns c = rw (← c.self.view_is) (sym (number_byte c.self.inside.t (omega (arith, c.self.invariant))))

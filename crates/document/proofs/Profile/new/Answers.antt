@@ -5,6 +5,7 @@ use native.Mathlib.Omega.{arith}
 use Rattle.document.specs.Profile.{shape_accepted, edition_accepted}
 use Rattle.document.proofs.Decides.{decides_false}
 use Rattle.document.proofs.Accepts.{
+  decides_shape,
   decides_constant,
   decides_strip,
   decides_edition,
@@ -61,3 +62,14 @@ pub returns : goal.returns
 returns c =
     sym (none_refused _ (shape (goal.at.returns c).Else-not-accepts_shape)
     ((decides_constant _).1 (omega arith, omega arith)) ((decides_strip _).1 (omega arith, omega arith)) (edition (goal.at.returns c).Else-not-accepts_edition))
+
+pub invariant_of-result : goal.invariant_of-result
+invariant_of-result c = record {
+  shape = (decides_shape _ _ _).0 (shape (goal.at.invariant_of-result c).Else-not-accepts_shape);
+  above_one = omega arith;
+  one_byte = omega arith;
+  some_bytes = omega arith;
+  short = omega arith;
+  first_edition = ((decides_edition _).0 (edition (goal.at.invariant_of-result c).Else-not-accepts_edition)).0;
+  last_edition = ((decides_edition _).0 (edition (goal.at.invariant_of-result c).Else-not-accepts_edition)).1;
+}

@@ -5,8 +5,10 @@ use Rattle.document.proofs.Profile.partner.Goals as goal
 
 pub overflow_mul-result : goal.overflow_mul-result
 overflow_mul-result c =
-    omega (arith, group_within c.args.self c.requires.0 c.args.q.node.0 c.requires.1.node, c.requires.0)
+    let q = rw (← c.self.view_is) at c.requires in
+    omega (arith, group_within _ c.self.invariant c.args.q.node.0 q.node, c.self.invariant)
 
 pub overflow_add-result : goal.overflow_add-result
 overflow_add-result c =
-    omega (arith, group_within c.args.self c.requires.0 c.args.q.node.0 c.requires.1.node, c.requires.0, c.requires.1)
+    let q = rw (← c.self.view_is) at c.requires in
+    omega (arith, group_within _ c.self.invariant c.args.q.node.0 q.node, c.self.invariant, q)

@@ -7,16 +7,19 @@ use Rattle.document.proofs.Profile.start.Goals as goal
 
 pub overflow_mul-result : goal.overflow_mul-result
 overflow_mul-result c =
-    omega (arith, strips_bound _ c.requires.0, strip_number _ c.requires.0 c.args.q c.requires.1)
+    let acc = c.self.invariant in
+    omega (arith, strips_bound _ acc, strip_number _ acc c.args.q (rw (← c.self.view_is) at c.requires))
 
 pub overflow_add-result : goal.overflow_add-result
 overflow_add-result c =
-    omega (arith, strips_bound _ c.requires.0, strip_number _ c.requires.0 c.args.q c.requires.1)
+    let acc = c.self.invariant in
+    omega (arith, strips_bound _ acc, strip_number _ acc c.args.q (rw (← c.self.view_is) at c.requires))
 
 pub overflow_mul-result-2 : goal.overflow_mul-result-2
 overflow_mul-result-2 c =
-    omega (arith, array_bound _ c.requires.0, strip_within _ c.requires.0 c.args.q c.requires.1)
+    let acc = c.self.invariant in
+    omega (arith, array_bound _ acc, strip_within _ acc c.args.q (rw (← c.self.view_is) at c.requires))
 
 pub returns : goal.returns
 unfolding E.start
-returns c = refl
+returns c = rw (← c.self.view_is) refl
