@@ -45,7 +45,7 @@ fn couple_strip(x: &mut [u8], p: Profile, z: usize)
 
 // Couples the rows of an array of any bytes, pair by pair in place.
 pub fn couple(x: &mut [u8], p: Profile)
-    requires { (length x.old ≡ p.n * p.a * p.s) }
+    requires { length x.old ≡ p.n * p.a * p.s }
     ensures { x.new ≡ coupled p x.old }
 {
     for z in 0..p.n * p.a {

@@ -9,6 +9,7 @@ use Rattle.document.specs.Places.{partner_of}
 use Rattle.document.specs.ByteField.{number}
 use Rattle.document.specs.Encoding as E
 use Rattle.document.specs.Encoding.{constant_of}
+use Rattle.document.proofs.Fields.{fields, is_accepted}
 use Rattle.document.proofs.Bounds.{A>0, room}
 use Rattle.coupling.specs.Pairs.{partner_number}
 use Rattle.coupling.proofs.Partners.{partner_before, strip_start_lem, partner_start, no_upper}
@@ -21,7 +22,7 @@ upper : (c : Then-i-l)
     → c.args.z % c.args.p.a
     < c.args.z / c.args.p.a
     % c.args.p.a
-upper c = rw c.place-q.ensures at c.if-i-l.true
+upper c = rw (c.place-q.ensures, fields c.p.view_is) at c.if-i-l.true
 
 -- where the two strips start
 module _ (c : After-start-lower) where
@@ -43,15 +44,17 @@ module _ (c : After-start-lower) where
   apart : partner_number p.a z * p.s + p.s ≤ z * p.s
   apart =
       room (partner_number p.a z) z p.s
-      (partner_before p.a (A>0 p c.requires.0) z ((rw c.place-q.ensures at c.if-i-l.true)))
+      (partner_before p.a (A>0 p (is_accepted c.p.view_is c.p.invariant)) z
+      (rw (c.place-q.ensures, fields c.p.view_is) at c.if-i-l.true))
 
   inside : z * p.s + p.s ≤ length c.args.x.now
-  inside = rw c.requires.1 (room z (p.n * p.a) p.s c.requires.2)
+  inside = rw c.requires.0 (room z (p.n * p.a) p.s c.requires.1)
 
 pub couple_pair-requires : goal.couple_pair-requires
 couple_pair-requires c =
-    let w = (goal.at.couple_pair-requires c).After-start-lower in (
-      c.requires.0.short,
+    let w = (goal.at.couple_pair-requires c).After-start-lower in
+    rw (fields c.p-then-i-l.view_is) (
+      (is_accepted c.p.view_is c.p.invariant).short,
       omega (arith, upper_start w, lower_start w, apart w),
       omega (arith, upper_start w, inside w),
     )
@@ -60,7 +63,8 @@ pub returns-then-i-l : goal.returns-then-i-l
 returns-then-i-l c =
     let w = (goal.at.returns-then-i-l c).After-start-lower in
     let placed = c.place-q.ensures in
-    upper_pair (p w) (z w) (upper (goal.at.returns-then-i-l c).Then-i-l) c.args.x.now c.couple_pair.ensures
+    upper_pair (p w) (z w) (upper (goal.at.returns-then-i-l c).Then-i-l) c.args.x.now
+    (rw (fields c.p-then-i-l.view_is) at c.couple_pair.ensures)
     (c.constant-t.ensures
     ∙ ap₂ (λ (r o : Place). number (constant_of (p w) r.row.0 o.row.0))
     (c.partner-r.ensures ∙ ap (partner_of (p w).a) placed) placed)
@@ -68,5 +72,5 @@ returns-then-i-l c =
 
 pub returns-else-i-l : goal.returns-else-i-l
 returns-else-i-l c =
-    let h = rw c.place-q.ensures at c.if-i-l.false in
+    let h = rw (c.place-q.ensures, fields c.p.view_is) at c.if-i-l.false in
     sym (no_upper c.args.p c.args.z h _ c.args.x.now)
