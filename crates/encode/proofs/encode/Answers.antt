@@ -1,11 +1,8 @@
 -- `encode::encode` meets its contract: the head of a call.
 use mathlib.Core.Path.{sym, ◌∙◌}
 use Rattle.document.specs.Encoding.{encode_of}
-use Rattle.document.proofs.Accepts.{accepted, refused_exit, passed}
+use Rattle.document.proofs.Accepts.{refused_exit, passed}
 use Rattle.encode.proofs.encode.Goals as goal
-
-pub encode_with-requires : goal.encode_with-requires
-encode_with-requires c = accepted _ (sym c.in_ok-profile.ensures)
 
 pub returns-in_err-profile : goal.returns-in_err-profile
 unfolding encode_of
