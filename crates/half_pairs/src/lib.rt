@@ -7,7 +7,6 @@ ghost use Rattle.std.specs.Prelude.{◌≡◌, false, ◌*◌, ◌<◌, length};
 ghost use Rattle.lists.specs.Put.{Wrote};
 ghost use Rattle.ksets.specs.Sets.{Rising};
 ghost use Rattle.square.specs.Steps.{side};
-ghost use Rattle.document.specs.Profile.{Accepted};
 ghost use Rattle.document.specs.Places.{Within};
 ghost use Rattle.document.specs.ByteField.{number};
 ghost use Rattle.document.specs.Reading.{joined_place};
@@ -34,24 +33,19 @@ pub struct HalfPairs {
 
 // Where each node that a profile can have stands in the list; its length if it does not.
 fn positions(p: Profile, nodes: &[u8]) -> [u8; Profile::MAX_NODES]
-    requires { Accepted p × Rising p.n p.k nodes.now }
+    requires { Rising p.n p.k nodes.now }
     ensures { result ≡ position_table nodes.now }
 {
-    let k = p.k;
-    let absent = k as u8;
-    let mut table = [absent; Profile::MAX_NODES];
-    let mut q: usize = 0;
-    while q < k {
-        let j = nodes[q] as usize;
-        table[j] = q as u8;
-        q += 1;
+    let mut table = [p.k as u8; Profile::MAX_NODES];
+    for (q, node) in nodes.iter().enumerate() {
+        table[*node as usize] = q as u8;
     }
     table
 }
 
 // The place of strip z of the named nodes' columns.
 pub fn joined_place(p: Profile, nodes: &[u8], z: usize) -> Place
-    requires { Accepted p × (length nodes.now ≡ p.k) × (z < p.k * p.a) }
+    requires { (length nodes.now ≡ p.k) × (z < p.k * p.a) }
     ensures { result ≡ joined_place p nodes.now z }
 {
     let m = z / p.a;
@@ -63,7 +57,7 @@ pub fn joined_place(p: Profile, nodes: &[u8], z: usize) -> Place
 
 // Its partner.
 pub fn joined_partner(p: Profile, nodes: &[u8], z: usize) -> Place
-    requires { Accepted p × Rising p.n p.k nodes.now × (z < p.k * p.a) }
+    requires { Rising p.n p.k nodes.now × (z < p.k * p.a) }
     ensures { result ≡ partner_at p nodes.now z }
 {
     let q = joined_place(p, nodes, z);
@@ -72,7 +66,7 @@ pub fn joined_partner(p: Profile, nodes: &[u8], z: usize) -> Place
 
 // Whether the partner of strip z lies on a node that is not named.
 fn is_half_pair(p: Profile, nodes: &[u8], positions: &[u8], z: usize) -> bool
-    requires accepted { Accepted p × Rising p.n p.k nodes.now × (z < p.k * p.a) }
+    requires strip { Rising p.n p.k nodes.now × (z < p.k * p.a) }
     requires positions_value { positions.now ≡ position_table nodes.now }
     ensures { result ≡ is_half_pair p nodes.now z }
 {
@@ -84,17 +78,14 @@ fn is_half_pair(p: Profile, nodes: &[u8], positions: &[u8], z: usize) -> bool
 
 // Writes the numbers of the half pairs, and returns how many there are. `out` has room for all strips.
 fn list_half_pairs(out: &mut [u8], p: Profile, nodes: &[u8], positions: &[u8]) -> usize
-    requires accepted { Accepted p × Rising p.n p.k nodes.now × (length out.old ≡ side) }
+    requires room { Rising p.n p.k nodes.now × (length out.old ≡ side) }
     requires positions_value { positions.now ≡ position_table nodes.now }
     ensures { Wrote out.old 0 (half_pairs p nodes.now) result out.new }
 {
-    let count = p.k * p.a;
     let mut next: usize = 0;
-    let mut z: usize = 0;
-    while z < count {
+    for z in 0..p.k * p.a {
         let wanted = is_half_pair(p, nodes, positions, z);
         next = lists::put_if(out, next, z, wanted);
-        z += 1;
     }
     next
 }
@@ -108,7 +99,7 @@ fn put_row(
     positions: &[u8],
     j: usize,
 )
-    requires accepted { Accepted p × Rising p.n p.k nodes.now × (length out.old ≡ p.k) × (j < p.n) }
+    requires room { Rising p.n p.k nodes.now × (length out.old ≡ p.k) × (j < p.n) }
     requires denominators_value { (denominators.now ≡ denominators_of nodes.now) × (positions.now ≡ position_table nodes.now) }
     ensures { out.new ≡ weight_row p.k nodes.now j }
 {
@@ -121,33 +112,29 @@ fn put_row(
 
 // The weights at all nodes, node after node.
 fn put_weights(out: &mut [u8], p: Profile, nodes: &[u8], positions: &[u8])
-    requires accepted { Accepted p × Rising p.n p.k nodes.now × (length out.old ≡ p.n * p.k) }
+    requires room { Rising p.n p.k nodes.now × (length out.old ≡ p.n * p.k) }
     requires positions_value { positions.now ≡ position_table nodes.now }
     ensures { out.new ≡ node_weights p nodes.now }
 {
     let k = p.k;
-    let n = p.n;
     let mut denominators = [0u8; Profile::MAX_NODES];
     coefficients::denominators(nodes, &mut denominators[..k]);
-    let mut j: usize = 0;
-    while j < n {
+    for j in 0..p.n {
         let from = j * k;
-        let end = from + k;
         put_row(
-            &mut out[from..end],
+            &mut out[from..from + k],
             p,
             nodes,
             &denominators[..k],
             positions,
             j,
         );
-        j += 1;
     }
 }
 
 // The same, in a table that a call makes once.
 fn weight_table(p: Profile, nodes: &[u8], positions: &[u8]) -> [u8; WEIGHTS]
-    requires { Accepted p × Rising p.n p.k nodes.now × (positions.now ≡ position_table nodes.now) }
+    requires { Rising p.n p.k nodes.now × (positions.now ≡ position_table nodes.now) }
     ensures { result ≡ weight_table p nodes.now }
 {
     let width = p.n * p.k;
@@ -160,7 +147,7 @@ fn weight_table(p: Profile, nodes: &[u8], positions: &[u8]) -> [u8; WEIGHTS]
 // the factor with which the partner stands in strip y, times the weight of y's node at that of r; 0 where y is in
 // another row.
 fn partner_coefficient(p: Profile, nodes: &[u8], table: &[u8], r: Place, y: usize) -> u8
-    requires accepted { Accepted p × Rising p.n p.k nodes.now × (y < p.k * p.a) }
+    requires strip { Rising p.n p.k nodes.now × (y < p.k * p.a) }
     requires within { Within p r × (is_named p.k nodes.now r.node.0 ≡ false) }
     requires table_value { (table.now ≡ weight_table p nodes.now)
         × (is_named p.k nodes.now (partner_at p nodes.now y).node.0 ≡ false) }
@@ -178,17 +165,14 @@ fn partner_coefficient(p: Profile, nodes: &[u8], table: &[u8], r: Place, y: usiz
 // Line e of the system: the coefficient of each half pair's partner in the equation for that of the e-th half pair, and
 // 1 more for its own.
 fn system_line(p: Profile, nodes: &[u8], table: &[u8], halves: &[u8], e: usize) -> [u8; SIDE]
-    requires accepted { Accepted p × Rising p.n p.k nodes.now × (table.now ≡ weight_table p nodes.now) }
+    requires weights { Rising p.n p.k nodes.now × (table.now ≡ weight_table p nodes.now) }
     requires halves_value { (halves.now ≡ half_pairs p nodes.now) × (e < length halves.now) }
     ensures { result ≡ system_line p nodes.now e }
 {
     let r = joined_partner(p, nodes, halves[e] as usize);
     let mut c = [0u8; SIDE];
-    let mut f: usize = 0;
-    while f < halves.len() {
-        let v = partner_coefficient(p, nodes, table, r, halves[f] as usize);
-        c[f] = v;
-        f += 1;
+    for (f, half) in halves.iter().enumerate() {
+        c[f] = partner_coefficient(p, nodes, table, r, *half as usize);
     }
     c[e] = c[e] ^ 1;
     c
@@ -197,7 +181,7 @@ fn system_line(p: Profile, nodes: &[u8], table: &[u8], halves: &[u8], e: usize) 
 // The half pairs of the named nodes and what belongs to them, once for a call. Past the half pairs `halves` holds
 // zeros.
 pub fn of_nodes(p: Profile, nodes: &[u8]) -> HalfPairs
-    requires { Accepted p × Rising p.n p.k nodes.now }
+    requires { Rising p.n p.k nodes.now }
     ensures { HalfPairsOf p nodes.now result }
 {
     let positions = positions(p, nodes);
@@ -205,27 +189,23 @@ pub fn of_nodes(p: Profile, nodes: &[u8]) -> HalfPairs
     let mut halves = [0u8; SIDE];
     let count = list_half_pairs(&mut halves, p, nodes, &positions);
     HalfPairs {
-        positions: positions,
-        halves: halves,
-        count: count,
-        table: table,
+        positions,
+        halves,
+        count,
+        table,
     }
 }
 
 // The system, made of them: a line for each half pair. Lines past them hold zeros.
-pub fn small_system(p: Profile, nodes: &[u8], h: HalfPairs) -> [Line; SIDE]
-    requires { Accepted p × Rising p.n p.k nodes.now × HalfPairsOf p nodes.now h }
+pub fn small_system(p: Profile, nodes: &[u8], h: &HalfPairs) -> [Line; SIDE]
+    requires { Rising p.n p.k nodes.now × HalfPairsOf p nodes.now h.now }
     ensures { result ≡ system_square p nodes.now }
 {
-    let count = h.count;
-    let table = h.table;
-    let halves = h.halves;
+    let halves = &h.halves[..h.count];
     let mut s = [Line { c: [0u8; SIDE] }; SIDE];
-    let mut e: usize = 0;
-    while e < count {
-        let c = system_line(p, nodes, &table, &halves[..count], e);
-        s[e] = Line { c: c };
-        e += 1;
+    for e in 0..h.count {
+        let c = system_line(p, nodes, &h.table, halves, e);
+        s[e] = Line { c };
     }
     s
 }

@@ -275,7 +275,7 @@ fn read_from(p: Profile, nodes: &[u8], columns: &[u8], output: &mut [u8]) -> Res
         ≡ reading_answer p nodes.now columns.now output.old }
 {
     let h = half_pairs::of_nodes(p, nodes);
-    let s = half_pairs::small_system(p, nodes, h);
+    let s = half_pairs::small_system(p, nodes, &h);
     let count = h.count;
     let e = square::invert(s, count, count);
     let verdict = e.verdict;

@@ -17,7 +17,7 @@ fn fails(p: Profile, set: &[u8]) -> bool
     ensures { result ≡ ambiguous p set.now }
 {
     let h = half_pairs::of_nodes(p, set);
-    let lines = half_pairs::small_system(p, set, h);
+    let lines = half_pairs::small_system(p, set, &h);
     let count = h.count;
     let verdict = square::judge(lines, count, count);
     match verdict {

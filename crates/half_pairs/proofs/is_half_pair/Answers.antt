@@ -4,17 +4,17 @@ use mathlib.Core.Bool.{not}
 use mathlib.Core.List.{List}
 use Prim.Native.Nat.{ℕ, ◌<◌}
 use native.Mathlib.Omega.{arith}
+use borrow.Author.Rules.{rules}
 use lib.Dec.{ltb}
 use lib.ListN.{length, get_or}
 use Rattle.document.specs.declared.Place.{Place}
+use Rattle.document.specs.Accepted.{Accepted}
+use Rattle.document.proofs.Fields.{fields}
 use Rattle.lists.specs.Positions.{position_in}
 use Rattle.half_pairs.specs.HalfPairs.{partner_at}
 use Rattle.half_pairs.proofs.Named.{joined_partner_within, table_length, table_at}
-use Rattle.half_pairs.proofs.is_half_pair.Goals.{After-joined_partner-r, Start}
+use Rattle.half_pairs.proofs.is_half_pair.Goals.{After-joined_partner-r}
 use Rattle.half_pairs.proofs.is_half_pair.Goals as goal
-
-pub joined_partner-r-requires : goal.joined_partner-r-requires
-joined_partner-r-requires c = c.requires.accepted
 
 -- the partner's node is one of at most 24
 module _ (c : After-joined_partner-r) where
@@ -23,12 +23,9 @@ module _ (c : After-joined_partner-r) where
 
   below : c.joined_partner-r.result.node.0 < 24
   below =
-      let r = c.requires.accepted in
-      let w = joined_partner_within c.args.p r.0 c.args.nodes.now r.1 c.args.z r.2 in
-      omega (arith, node, r.0.shape.few_nodes, w.node)
-
-  size : length c.args.positions.now ≡ 24
-  size = ap length c.requires.positions_value ∙ table_length c.args.nodes.now
+      let acc : Accepted c.args.p = search rules in
+      let w = joined_partner_within c.args.p acc c.args.nodes.now c.requires.strip.0 c.args.z c.requires.strip.1 in
+      omega (arith, node, acc.shape.few_nodes, w.node)
 
   entry : get_or c.args.positions.now c.joined_partner-r.result.node.0 0
       ≡ position_in c.args.nodes.now (partner_at c.args.p c.args.nodes.now c.args.z).node.0
@@ -38,11 +35,11 @@ module _ (c : After-joined_partner-r) where
       ∙ ap (position_in c.args.nodes.now) node
 
 pub bounds-positions-j : goal.bounds-positions-j
-bounds-positions-j c = omega (arith, size (goal.at.bounds-positions-j c).After-joined_partner-r, below (goal.at.bounds-positions-j c).After-joined_partner-r)
-
-pub overflow_cast-q : goal.overflow_cast-q
-overflow_cast-q c = omega (arith, c.type_inv.positions c.joined_partner-r.result.node.0)
+bounds-positions-j c =
+    let size = ap length c.requires.positions_value ∙ table_length c.args.nodes.now in
+    omega (arith, size, below (goal.at.bounds-positions-j c).After-joined_partner-r)
 
 pub returns : goal.returns
 returns c =
-    ap (λ (q : ℕ). not (ltb q c.args.p.k)) (entry (goal.at.returns c).After-joined_partner-r)
+    rw (fields c.p.view_is)
+    (ap (λ (q : ℕ). not (ltb q c.args.p.k)) (entry (goal.at.returns c).After-joined_partner-r))

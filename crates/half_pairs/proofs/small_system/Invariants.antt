@@ -2,7 +2,7 @@
 -- lines before e are written.
 use mathlib.Core.Path.{◌≡◌}
 use mathlib.Core.List.{List}
-use Prim.Native.Nat.{ℕ, ◌-◌, ◌≤◌}
+use Prim.Native.Nat.{ℕ}
 use lib.ListN.{replicate}
 use Rattle.square.specs.declared.Line.{Line}
 use Rattle.square.specs.Steps.{filled}
@@ -17,7 +17,4 @@ abbrev pub blank : List Line
 blank = replicate 80 (record { c = replicate 80 0 })
 
 abbrev pub invariant-loop-e : goal.invariant-loop-e
-invariant-loop-e l = (l.e ≤ l.count) × (l.s ≡ filled (system_line_of l.p l.nodes) blank l.e)
-
-abbrev pub decreases-loop-e : goal.decreases-loop-e
-decreases-loop-e l = l.count - l.e
+invariant-loop-e l = l.s ≡ filled (system_line_of l.p l.nodes) blank l.e

@@ -1,14 +1,9 @@
 -- `half_pairs::system_line` meets its contract. The invariant: the first f entries are written.
 use mathlib.Core.Path.{◌≡◌}
-use Prim.Native.Nat.{◌-◌, ◌≤◌}
-use lib.ListN.{length, replicate}
+use lib.ListN.{replicate}
 use Rattle.square.specs.Steps.{filled}
 use Rattle.half_pairs.proofs.System.{coefficient_entry}
 use Rattle.half_pairs.proofs.system_line.Given as goal
 
 abbrev pub invariant-loop-f : goal.invariant-loop-f
-invariant-loop-f l =
-    (l.f ≤ length l.halves) × (l.c ≡ filled (coefficient_entry l.p l.nodes l.e) (replicate 80 0) l.f)
-
-abbrev pub decreases-loop-f : goal.decreases-loop-f
-decreases-loop-f l = length l.halves - l.f
+invariant-loop-f l = l.c ≡ filled (coefficient_entry l.p l.nodes l.e) (replicate 80 0) l.f
