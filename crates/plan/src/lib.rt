@@ -4,7 +4,7 @@
 ghost use Rattle.std.specs.Prelude.{◌≡◌, ◌∷◌, [], ℕ, ◌+◌, ◌-◌, ◌%◌, ◌<◌, ◌≤◌, length, get_or, take};
 ghost use Rattle.lists.specs.Listed.{around};
 ghost use Rattle.lists.specs.Put.{Wrote};
-ghost use Rattle.document.specs.Profile.{Accepted, max_nodes};
+ghost use Rattle.document.specs.Profile.{max_nodes};
 ghost use Rattle.document.specs.Plan.{walk_start, walk_of, nodes_over, planned, price_of, plan_bytes, plan_with, plan_of};
 ghost use Rattle.plan.specs.Steps.{in_step, places_at, places_of};
 
@@ -24,7 +24,6 @@ pub const MAX_PLACES: usize = 38;
 
 // Whether the step goes over node j.
 pub fn in_step(step: Step, p: Profile, f: Node, j: usize) -> bool
-    requires { Accepted p }
     ensures { result ≡ in_step step p.a f j }
 {
     let group = j / p.a == f.0 / p.a;
@@ -49,7 +48,7 @@ fn walk_start(p: Profile, f: Node) -> usize
 
 // Node i of a walk from `start`, which wraps past n-1 to 0.
 fn node_at(p: Profile, start: usize, i: usize) -> usize
-    requires { Accepted p × (start ≤ p.n) × (i < p.n) }
+    requires { (start ≤ p.n) × (i < p.n) }
     ensures { result ≡ (start + i) % p.n }
 {
     let j = start + i;
@@ -70,18 +69,18 @@ fn list_step(
     step: Step,
     start: usize,
 ) -> usize
-    requires { Accepted p × (start ≤ p.n) × (at ≤ end) × (end ≤ length out.old) }
+    requires { (start ≤ p.n) × (at ≤ end) × (end ≤ length out.old) }
     ensures { Wrote out.old at
         (take (end - at) (around p.n start (in_step step p.a f))) result out.new }
 {
-    let n = p.n;
     let mut next = at;
-    let mut i: usize = 0;
-    while i < n && next < end {
+    for i in 0..p.n {
+        if next == end {
+            return next;
+        }
         let j = node_at(p, start, i);
         let wanted = in_step(step, p, f, j);
         next = lists::put_if(out, next, j, wanted);
-        i += 1;
     }
     next
 }
@@ -98,7 +97,7 @@ fn put_place(out: &mut [u8], at: usize, q: Place) -> usize
 
 // Writes the places that are read for node j.
 fn put_node(out: &mut [u8], at: usize, p: Profile, f: Node, j: usize) -> usize
-    requires { Accepted p × (j < p.n) × (at + length (plan_bytes (places_at p.a f j)) ≤ length out.old) }
+    requires { (j < p.n) × (at + length (plan_bytes (places_at p.a f j)) ≤ length out.old) }
     ensures { Wrote out.old at (plan_bytes (places_at p.a f j)) result out.new }
 {
     let q = Place {
@@ -114,23 +113,21 @@ fn put_node(out: &mut [u8], at: usize, p: Profile, f: Node, j: usize) -> usize
 
 // Writes the places that are read for each of the nodes.
 fn put_nodes(out: &mut [u8], p: Profile, f: Node, nodes: &[u8]) -> usize
-    requires { Accepted p × ((i : ℕ) → i < length nodes.now → get_or nodes.now i 0 < p.n)
+    requires { ((i : ℕ) → i < length nodes.now → get_or nodes.now i 0 < p.n)
         × (length (plan_bytes (places_of p.a f nodes.now)) ≤ length out.old) }
     ensures { Wrote out.old 0
         (plan_bytes (places_of p.a f nodes.now)) result out.new }
 {
-    let mut at: usize = 0;
-    let mut i: usize = 0;
-    while i < nodes.len() {
-        at = put_node(out, at, p, f, nodes[i] as usize);
-        i += 1;
+    let mut at = 0;
+    for node in nodes {
+        at = put_node(out, at, p, f, usize::from(*node));
     }
     at
 }
 
 // Writes the numbers of the nodes that the plan reads at, and returns how many there are.
 pub fn list_nodes(out: &mut [u8], p: Profile, f: Node) -> usize
-    requires { Accepted p × (f.0 < p.n) × (max_nodes ≤ length out.old) }
+    requires { (f.0 < p.n) × (max_nodes ≤ length out.old) }
     ensures { Wrote out.old 0 (nodes_over p.k (walk_of p f)) result out.new }
 {
     let own = list_step(out, 0, p.a - 1, p, f, Step::Own, 0);
@@ -142,7 +139,7 @@ pub fn list_nodes(out: &mut [u8], p: Profile, f: Node) -> usize
 
 // Writes the planned places, two bytes each, and returns the number of bytes.
 pub fn put_plan(out: &mut [u8], p: Profile, f: Node) -> usize
-    requires { Accepted p × (f.0 < p.n) × (length (plan_bytes (planned p f)) ≤ length out.old) }
+    requires { (f.0 < p.n) × (length (plan_bytes (planned p f)) ≤ length out.old) }
     ensures { Wrote out.old 0 (plan_bytes (planned p f)) result out.new }
 {
     let mut nodes = [0u8; Profile::MAX_NODES];
@@ -152,7 +149,6 @@ pub fn put_plan(out: &mut [u8], p: Profile, f: Node) -> usize
 
 // The number of planned places: the same for every lost node.
 pub fn price(p: Profile) -> usize
-    requires { Accepted p }
     ensures { result ≡ price_of p.n p.k p.a }
 {
     let others = p.n / p.a - 1;
@@ -162,7 +158,6 @@ pub fn price(p: Profile) -> usize
 
 // Plans with an accepted profile.
 fn plan_with(p: Profile, f: Node, places: &mut [u8]) -> Result<usize, Refusal>
-    requires { Accepted p }
     ensures { (result, places.new) ≡ plan_with p f places.old }
 {
     if f.0 >= p.n {

@@ -1,11 +1,8 @@
 -- `plan::plan` meets its contract: the head of a call.
 use mathlib.Core.Path.{sym, ◌∙◌}
 use Rattle.document.specs.Plan.{plan_of}
-use Rattle.document.proofs.Accepts.{accepted, refused_exit, passed}
+use Rattle.document.proofs.Accepts.{refused_exit, passed}
 use Rattle.plan.proofs.plan.Goals as goal
-
-pub plan_with-requires : goal.plan_with-requires
-plan_with-requires c = accepted _ (sym c.in_ok-profile.ensures)
 
 pub returns-in_err-profile : goal.returns-in_err-profile
 unfolding plan_of
