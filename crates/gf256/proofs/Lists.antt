@@ -6,6 +6,7 @@ use native.Mathlib.Numerals.{add-one}
 use lib.Dec.{lit<}
 use lib.ListN.{length, get_or, take, drop, drop_of_length-le}
 use lib.Seq.{drop-cons, get_or-take, length-take-le}
+use Rattle.std.specs.List.{fold}
 use Rattle.lists.specs.Listed.{listed}
 use Rattle.lists.proofs.Listed.{listed_length, listed_at, listed_ext, listed_take}
 use Rattle.gf256.specs.Field.{◌⊕◌, ◌⊗◌, inverse, total_of, product_of, products_of, inverses_of, quotients_of}
@@ -25,7 +26,7 @@ module _ (xs : List ℕ) (t i : ℕ) where
       ∙ add_assoc t (get_or xs i 0) (total_of (drop (suc i) xs))
       ∙ ap (λ (ys : List ℕ). t ⊕ total_of ys) (sym (drop-cons xs i 0 h))
 
--- ---- the product so far, times the product of the entries from i on
+-- ---- the product as a fold from p on
 product_lt : (xs : List ℕ) → product_of xs < 256
 unfolding product_of
 product_lt [] = lit< tt
@@ -34,20 +35,11 @@ product_lt (x ∷ xs) = mul_lt x (product_of xs)
 pub product_start : (xs : List ℕ) → 1 ⊗ product_of xs ≡ product_of xs
 product_start xs = one-mul (product_of xs) (product_lt xs)
 
-module _ (xs : List ℕ) (p i : ℕ) where
-  pub product_done : length xs ≤ i → p < 256 → p ⊗ product_of (drop i xs) ≡ p
-  unfolding product_of
-  product_done h l =
-      ap (λ (ys : List ℕ). p ⊗ product_of ys) (drop_of_length-le xs h) ∙ mul-one p l
-
-  pub product_step : i < length xs
-      → (get_or xs i 0 ⊗ p) ⊗ product_of (drop (i + 1) xs) ≡ p ⊗ product_of (drop i xs)
-  unfolding product_of
-  product_step h =
-      ap (λ (j : ℕ). (get_or xs i 0 ⊗ p) ⊗ product_of (drop j xs)) (add-one i)
-      ∙ mul_assoc (get_or xs i 0) p (product_of (drop (suc i) xs))
-      ∙ mul_left_comm (get_or xs i 0) p (product_of (drop (suc i) xs))
-      ∙ ap (λ (ys : List ℕ). p ⊗ product_of ys) (sym (drop-cons xs i 0 h))
+pub fold_product : (p : ℕ) (xs : List ℕ) → p < 256 → fold (λ p x. x ⊗ p) p xs ≡ p ⊗ product_of xs
+unfolding product_of
+fold_product p [] h = sym (mul-one p h)
+fold_product p (x ∷ xs) h =
+    fold_product (x ⊗ p) xs (mul_lt x p) ∙ mul_assoc x p (product_of xs) ∙ mul_left_comm x p (product_of xs)
 
 -- ---- lists made entry by entry
 pub inverses_length : (ys : List ℕ) → length (inverses_of ys) ≡ length ys

@@ -19,11 +19,9 @@
 -- quotients_of xs ys   : each entry of xs divided by the entry of ys at its place
 -- NoZero ys           : no entry of ys is 0
 -- max_divisors         : the most divisors that `divide_all` takes
-use Rattle.std.specs.Prelude.{ℕ, zero, suc, ◌*◌, ◌/◌, ◌%◌, ◌<◌, true, false, cond, List, [], ◌∷◌, eqb, length, get_or}
+use Rattle.std.specs.Prelude.{ℕ, zero, suc, ◌*◌, ◌/◌, ◌%◌, ◌<◌, true, false, cond, List, [], ◌∷◌, eqb, length, get_or, Option, None, Some}
 use Rattle.std.specs.Int.Bits.{bit_xor}
 use Rattle.lists.specs.Listed.{listed}
-use Rattle.gf256.specs.declared.Inverted.{Inverted}
-use Rattle.gf256.specs.declared.Inverted.TheVariants.{Byte, NoInverse}
 
 infixl 65 ◌⊕◌
 infixl 70 ◌⊗◌
@@ -83,8 +81,8 @@ unfoldable pub inverse : ℕ → ℕ
 inverse a = squares 7 a
 
 -- Document 02, K10: 'The inverse should say there is none for zero, and hand over the byte otherwise.'
-unfoldable pub inverted_of : ℕ → Inverted
-inverted_of a = cond (eqb a 0) NoInverse (Byte (inverse a))
+unfoldable pub inverted_of : ℕ → Option ℕ
+inverted_of a = cond (eqb a 0) None (Some (inverse a))
 
 -- The sum of a list, 0 for the empty one.
 unfoldable pub total_of : List ℕ → ℕ

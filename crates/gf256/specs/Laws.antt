@@ -6,8 +6,7 @@
 -- ProductLaws   : what the products are by the logarithms      product_laws
 -- InverseLaws   : what the inverses are                        inverse_laws
 -- Shown in proofs/Laws.antt, under the name beside each.
-use Rattle.std.specs.Prelude.{◌≡◌, ◌↔◌, cond, ℕ, ◌+◌, ◌-◌, ◌≤◌, ◌<◌, ltb}
-use Rattle.gf256.specs.declared.Inverted.TheVariants.{Byte, NoInverse}
+use Rattle.std.specs.Prelude.{◌≡◌, ◌↔◌, cond, ℕ, ◌+◌, ◌-◌, ◌≤◌, ◌<◌, ltb, None, Some}
 use Rattle.gf256.specs.Field.{◌⊗◌, power, log, inverse, inverted_of}
 
 pub record LogarithmLaws : Type 0 where
@@ -32,9 +31,9 @@ pub record ProductLaws : Type 0 where
 
 pub record InverseLaws : Type 0 where
   -- K10: 'there is none for zero', and for zero alone
-  pub none : (a : ℕ) → a < 256 → (inverted_of a ≡ NoInverse) ↔ (a ≡ 0)
+  pub none : (a : ℕ) → a < 256 → (inverted_of a ≡ None) ↔ (a ≡ 0)
   -- 'and hand over the byte otherwise': the one byte whose product with a is 1. So 0 is the inverse of no byte, and 0
   -- has none because no product with 0 is 1.
-  pub byte : (a b : ℕ) → a < 256 → (inverted_of a ≡ Byte b) ↔ ((b < 256) × (a ⊗ b ≡ 1))
+  pub byte : (a b : ℕ) → a < 256 → (inverted_of a ≡ Some b) ↔ ((b < 256) × (a ⊗ b ≡ 1))
   -- It is the `inverse` by which contracts speak of quotients.
-  pub handed : (a : ℕ) → 0 < a → a < 256 → inverted_of a ≡ Byte (inverse a)
+  pub handed : (a : ℕ) → 0 < a → a < 256 → inverted_of a ≡ Some (inverse a)

@@ -1,8 +1,8 @@
-// The two fixed tables of the field. Each use of a constant copies it, so a call takes a table once and lends it.
+// The two fixed tables of the field.
 ghost use Rattle.std.specs.Prelude.{◌≡◌};
 ghost use Rattle.gf256.specs.Field.{power, log, table_of};
 
-const EXP: [u8; 256] = [
+static EXP: [u8; 256] = [
     1, 2, 4, 8, 16, 32, 64, 128, 29, 58, 116, 232, 205, 135, 19, 38, 76, 152, 45, 90, 180, 117,
     234, 201, 143, 3, 6, 12, 24, 48, 96, 192, 157, 39, 78, 156, 37, 74, 148, 53, 106, 212, 181,
     119, 238, 193, 159, 35, 70, 140, 5, 10, 20, 40, 80, 160, 93, 186, 105, 210, 185, 111, 222, 161,
@@ -18,7 +18,7 @@ const EXP: [u8; 256] = [
     131, 27, 54, 108, 216, 173, 71, 142, 1,
 ];
 
-const LOG: [u8; 256] = [
+static LOG: [u8; 256] = [
     0, 0, 1, 25, 2, 50, 26, 198, 3, 223, 51, 238, 27, 104, 199, 75, 4, 100, 224, 14, 52, 141, 239,
     129, 28, 193, 105, 248, 200, 8, 76, 113, 5, 138, 101, 47, 225, 36, 15, 33, 53, 147, 142, 218,
     240, 18, 130, 69, 29, 181, 194, 125, 106, 39, 249, 185, 201, 154, 9, 120, 77, 228, 114, 166, 6,
@@ -35,15 +35,15 @@ const LOG: [u8; 256] = [
 ];
 
 // The powers 0 to 255.
-pub fn powers() -> [u8; 256]
-    ensures { result ≡ table_of power }
+pub fn powers() -> &'static [u8; 256]
+    ensures { result.now ≡ table_of power }
 {
-    EXP
+    &EXP
 }
 
 // The logarithms, in 0..254; the entry for 0 holds 0.
-pub fn logs() -> [u8; 256]
-    ensures { result ≡ table_of log }
+pub fn logs() -> &'static [u8; 256]
+    ensures { result.now ≡ table_of log }
 {
-    LOG
+    &LOG
 }

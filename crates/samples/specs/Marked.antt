@@ -2,7 +2,6 @@
 --
 -- Case                : what a definition gives, and what document 01 says it gives
 -- profile t           : the numbers (4,2,2), S = 1, edition 1, with the coupling constant t
--- inverse_bytes i      : an inverse as a list of one byte; the empty list if there is none
 -- outcome o           : an answer and a lent buffer as one list: number, value, bytes
 -- outer_columns o      : the same with the columns of nodes 0 and 3 alone
 -- bundle f fields     : a bundle for the lost node f, scenario 7, run 0, with these fields 03
@@ -13,13 +12,11 @@
 --                       sets looked at, bytes
 -- marked              : the cases
 -- shown               : what the cases give is what document 01 says
-use Rattle.std.specs.Prelude.{Result, ◌≡◌, refl, List, [], ◌∷◌, ◌++◌, map, ℕ, take, drop, replicate}
+use Rattle.std.specs.Prelude.{◌≡◌, refl, List, [], ◌∷◌, ◌++◌, map, ℕ, take, drop, replicate, option_to_list, Result}
 use Rattle.std.proofs.Math.Decide.{ℕ_discrete, dec_lt}
 use Rattle.lists.specs.Listed.{listed, patched, rising, along, all}
 use Rattle.lists.specs.Put.{slice, same}
 use Rattle.fields.specs.Fields.{two_bytes, four_bytes, opening}
-use Rattle.gf256.specs.declared.Inverted.{Inverted}
-use Rattle.gf256.specs.declared.Inverted.TheVariants.{Byte, NoInverse}
 use Rattle.gf256.specs.Field.{◌⊕◌, ◌⊗◌, double, bit_product, squares, inverse, inverted_of}
 use Rattle.algebra.specs.Sum.{sum}
 use Rattle.algebra.specs.Weight.{weight}
@@ -122,11 +119,6 @@ abbrev joined : List (List ℕ) → List ℕ
 joined [] = []
 joined (x ∷ xs) = x ++ joined xs
 
--- An inverse as a list: empty if there is none.
-abbrev inverse_bytes : Inverted → List ℕ
-inverse_bytes (Byte b) = b ∷ []
-inverse_bytes NoInverse = []
-
 -- An answer and a lent buffer, written as one list: number, value, bytes.
 abbrev pub outcome : Answer × List ℕ → List ℕ
 outcome (answer, x) = answer_number answer ∷ answer_value answer ∷ x
@@ -164,7 +156,7 @@ surveyed t start B =
 unfoldable pub marked : List Case
 marked =
     record { gives = 128 ⊗ 128 ∷ []; says = 19 ∷ [] }
-    ∷ record { gives = inverse_bytes (inverted_of 2); says = 142 ∷ [] }
+    ∷ record { gives = option_to_list (inverted_of 2); says = 142 ∷ [] }
     ∷ record { gives = 3 ⊗ 3 ∷ []; says = 5 ∷ [] }
     ∷ record {
       gives = outcome (encode_of (profile 2) (0x01 ∷ 0x00 ∷ 0x02 ∷ 0x04 ∷ []) (lent 8));

@@ -8,7 +8,6 @@
 ghost use Rattle.std.specs.Prelude.{◌≤◌, ◌<◌};
 
 use document::{Numbers, Recording, Refusal, Surveyed};
-use gf256::Inverted;
 use std::io;
 
 fn print(rt: &impl Print, text: &[u8]) -> io::Result<()> {
@@ -58,8 +57,8 @@ fn print_number(rt: &impl Print, n: u8) -> io::Result<()> {
 // The inverse of a byte, or that it has none.
 fn print_inverse(rt: &impl Print, a: u8) -> io::Result<()> {
     match gf256::inverse(a) {
-        Inverted::Byte(b) => print_number(rt, b),
-        Inverted::NoInverse => print(rt, b" none"),
+        Some(b) => print_number(rt, b),
+        None => print(rt, b" none"),
     }
 }
 

@@ -23,9 +23,7 @@
 --                      surveys_given_back
 -- InverseGivenBack   : they give the inverse back, and that there is none, whose number is that of no refusal. Shown in
 --                      proofs/Values.antt: inverse_given_back
-use Rattle.std.specs.Prelude.{Result, ◌≡◌, ◌≢◌, List, ℕ, ◌+◌, ◌*◌, ◌/◌, ◌%◌, ◌^◌, ◌<◌}
-use Rattle.gf256.specs.declared.Inverted.{Inverted}
-use Rattle.gf256.specs.declared.Inverted.TheVariants.{Byte, NoInverse}
+use Rattle.std.specs.Prelude.{◌≡◌, ◌≢◌, List, Option, None, Some, Result, ℕ, ◌+◌, ◌*◌, ◌/◌, ◌%◌, ◌^◌, ◌<◌}
 use Rattle.document.specs.declared.Numbers.{Numbers}
 use Rattle.document.specs.declared.Refusal.{Refusal}
 use Rattle.document.specs.declared.Surveyed.{Surveyed}
@@ -55,9 +53,9 @@ packed_survey_with (answer, x) = (packed_survey answer, x)
 abbrev pub no_inverse : ℕ
 no_inverse = 255
 
-unfoldable pub packed_inverse : Inverted → ℕ
-packed_inverse (Byte b) = 256 * b
-packed_inverse NoInverse = no_inverse
+unfoldable pub packed_inverse : Option ℕ → ℕ
+packed_inverse (Some b) = 256 * b
+packed_inverse None = no_inverse
 
 abbrev pub SurveyFits : Type 0
 SurveyFits =
@@ -100,6 +98,6 @@ abbrev pub SurveysGivenBack : Type 0
 SurveysGivenBack = (p : Numbers) (start most : ℕ) (x : List ℕ) → SurveyGivenBack (survey_of p start most x).0
 
 pub record InverseGivenBack : Type 0 where
-  pub byte : (b : ℕ) → (unpacked_number (packed_inverse (Byte b)) ≡ 0) × (unpacked_value (packed_inverse (Byte b)) ≡ b)
-  pub none : (unpacked_number (packed_inverse NoInverse) ≡ no_inverse) × (unpacked_value (packed_inverse NoInverse) ≡ 0)
+  pub byte : (b : ℕ) → (unpacked_number (packed_inverse (Some b)) ≡ 0) × (unpacked_value (packed_inverse (Some b)) ≡ b)
+  pub none : (unpacked_number (packed_inverse None) ≡ no_inverse) × (unpacked_value (packed_inverse None) ≡ 0)
   pub no_refusal : (r : Refusal) → number_of r ≢ no_inverse

@@ -14,7 +14,6 @@ ghost use Rattle.whaupfield.specs.Packed.{packed, packed_with, outcome_packed, p
 ghost use Rattle.whaupfield.specs.Packed.{packed_inverse};
 
 use document::{Numbers, Recording, Refusal, Surveyed};
-use gf256::Inverted;
 
 // The answer's number in the low byte, its value above it.
 fn pack(answer: Result<usize, Refusal>) -> u64
@@ -243,12 +242,13 @@ pub extern "C" fn whaupfield_product(a: u8, b: u8) -> u8
 }
 
 // An inverse as one number: 0 in the low byte and the inverse above it, or 255 if there is none.
-fn pack_inverse(inverse: Inverted) -> u64
+#[tactic(auto, unfolding(crate::specs::Packed::packed_inverse))]
+fn pack_inverse(inverse: Option<u8>) -> u64
     ensures { result ≡ packed_inverse inverse }
 {
     match inverse {
-        Inverted::Byte(b) => 256 * (b as u64),
-        Inverted::NoInverse => 255,
+        Some(b) => 256 * u64::from(b),
+        None => 255,
     }
 }
 

@@ -13,16 +13,12 @@ loop-i-init c = written_none _ _
 
 pub loop-i-preserved : goal.loop-i-preserved
 loop-i-preserved c =
-    let l = c.before.before.before.before.loop-i in
-    let s = c.before.before.before.before.before.before.before in
-    let xs = s.args.xs.now in
-    let y = get_or s.args.ys.now l.i 0 in
+    let l = c.loop-i in
+    let xs = c.args.xs.now in
+    let y = get_or c.args.ys.now l.i 0 in
     written_more _ l.i xs l.xs l.invariant (omega arith) _
     (c.mul.ensures ∙ ap (λ (x : ℕ). x ⊗ y) (written_next _ l.i xs l.xs l.invariant (omega arith)))
 
 pub returns : goal.returns
 unfolding products_of
-returns c =
-    let l = c.before.loop-i in
-    let s = c.before.before.before.before in
-    written_all _ l.i s.args.xs.now l.xs l.invariant (omega arith)
+returns c = written_all _ c.loop-i.i _ c.loop-i.xs c.loop-i.invariant (omega arith)

@@ -7,18 +7,16 @@ use Rattle.gf256.proofs.Xor.{zero-add}
 use Rattle.gf256.proofs.Lists.{total_step, total_done}
 use Rattle.gf256.proofs.total_of.Goals as goal
 
-pub loop-i-init : goal.loop-i-init
-loop-i-init c = (omega arith, zero-add (total_of c.args.xs.now))
+pub loop-x-init : goal.loop-x-init
+loop-x-init c = zero-add (total_of c.args.xs.now)
 
-pub loop-i-preserved : goal.loop-i-preserved
+pub loop-x-preserved : goal.loop-x-preserved
 unfolding ◌⊕◌
-loop-i-preserved c =
-    let l = c.before.before.loop-i in
-    let xs = c.before.before.before.args.xs.now in
-    (omega arith, total_step xs l.total l.i (omega arith) ∙ l.invariant.1)
+loop-x-preserved c =
+    let l = c.loop-x in
+    total_step c.args.xs.now l.total l.x-index (omega arith) ∙ l.invariant
 
 pub returns : goal.returns
 returns c =
-    let l = c.before.loop-i in
-    let xs = c.before.before.args.xs.now in
-    sym (total_done xs l.total l.i (omega arith)) ∙ l.invariant.1
+    let l = c.loop-x in
+    sym (total_done c.args.xs.now l.total l.x-index (omega arith)) ∙ l.invariant
