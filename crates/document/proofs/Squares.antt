@@ -5,6 +5,7 @@
 -- Null m w M r l    : the vector of l is 1 at r < w, and M takes it to zero
 -- Good m w M e      : what holds of M where the elimination of its lines ends with e
 -- State m w M r a t : the elimination of M has come to the square a with the right half t, and r columns are done
+use Rattle.std.specs.Prelude.{Option, Some, None, Ok, Err, is_err}
 use mathlib.Core.Path.{◌≡◌, refl, sym, ap, ◌∙◌}
 use mathlib.Core.Logic.{◌≢◌, ◌↔◌}
 use mathlib.Core.Bool.{true, false, cond}
@@ -31,13 +32,9 @@ use Rattle.algebra.proofs.Elimination.{
   no_kernel,
 }
 use Rattle.square.specs.declared.Line.{Line}
-use Rattle.square.specs.declared.Pivot.{Pivot}
-use Rattle.square.specs.declared.Pivot.TheVariants.{At, Missing}
 use Rattle.square.specs.Steps.{entry, stepped, lifted, multiplier_at, pivot_from}
-use Rattle.square.specs.declared.Verdict.{Verdict}
-use Rattle.square.specs.declared.Verdict.TheVariants.{Regular, Singular}
-use Rattle.square.specs.declared.Eliminated.{Eliminated}
-use Rattle.square.specs.Elimination.{end_from, eliminated, singular, kernel_from}
+use Rattle.square.specs.declared.Singular.{Singular}
+use Rattle.square.specs.Elimination.{Eliminated, end_from, eliminated, lines_of, kernel_from}
 use Rattle.square.proofs.Pivots.{Pivoted, pivoted, unpivoted}
 use Rattle.square.proofs.Ends.{end_at, end_stuck}
 use Rattle.document.specs.ByteField.{bytes, Byte, byte}
@@ -89,12 +86,9 @@ module _ (m w : ℕ) (M : Matrix bytes) where
     pub one : vector l r ≡ bytes.𝟙
     pub kills : Solves bytes m w M (λ i. bytes.𝟘) (vector l)
 
-  unfoldable Good : Verdict → List Line → Type 0
-  Good Regular u = Inverse bytes m w M (matrix u)
-  Good (Singular r) a = Null r (kernel_from w r a)
-
-  abbrev GoodEnd : Eliminated → Type 0
-  GoodEnd e = Good e.verdict e.lines
+  unfoldable Good : Eliminated → Type 0
+  Good (Ok u) = Inverse bytes m w M (matrix u)
+  Good (Err e) = Null e.column (kernel_from w e.column e.lines)
 
   -- The vector is not zero, so it is in the kernel.
   pub null_kernel : {r : ℕ} {l : List ℕ} → Null r l → Kernel bytes m w M
@@ -192,7 +186,7 @@ module _ (m w : ℕ) (M : Matrix bytes) where
           (lift_nonzero r p a t h P.high k S (P.above r (omega arith) h) P.nonzero)
 
   -- No pivot: the vector that is read off is taken to zero.
-  stuck_null : (r : ℕ) (a t : List Line) → r < w → pivot_from a r r m ≡ Missing → State r a t
+  stuck_null : (r : ℕ) (a t : List Line) → r < w → pivot_from a r r m ≡ None → State r a t
       → Null r (kernel_from w r a)
   unfolding vector matrix
   stuck_null r a t l e S = record {
@@ -209,26 +203,26 @@ module _ (m w : ℕ) (M : Matrix bytes) where
       one = ap byte (kernel_at w r a l) ∙ byte_one
 
   -- Column by column, with n still to do.
-  good : (n r : ℕ) → n + r ≡ w → r ≤ m → (a t : List Line) → State r a t → GoodEnd (end_from m n r a t)
+  good : (n r : ℕ) → n + r ≡ w → r ≤ m → (a t : List Line) → State r a t → Good (end_from m n r a t)
   unfolding end_from Good
   good zero r e l a t S =
       let q : r ≡ w = omega arith in
       finish bytes m w M (matrix a) (matrix t) (omega arith) S.reached (rw q at S.reduced)
   good (suc n) r e l a t S = go (pivot_from a r r m) refl (good n (suc r) (omega arith))
     where
-      go : (x : Pivot) → pivot_from a r r m ≡ x
-          → (suc r ≤ m → (a t : List Line) → State (suc r) a t → GoodEnd (end_from m n (suc r) a t))
-          → GoodEnd (end_from m (suc n) r a t)
-      go (At p) h next =
+      go : (x : Option ℕ) → pivot_from a r r m ≡ x
+          → (suc r ≤ m → (a t : List Line) → State (suc r) a t → Good (end_from m n (suc r) a t))
+          → Good (end_from m (suc n) r a t)
+      go (Some p) h next =
           let P : Pivoted a r r m p = pivoted a r r m p h in
           rw (end_at m r a t n p h)
           (next (omega (arith, P.low, P.high)) _ _ (next_state r p a t P (omega arith) S))
-      go Missing h next = rw (end_stuck m r a t n h) (stuck_null r a t (omega arith) h S)
+      go None h next = rw (end_stuck m r a t n h) (stuck_null r a t (omega arith) h S)
 
 -- ---- the outcome
 module _ {m w : ℕ} {s t : List Line} (S : Shaped m w s) (T : UnitShaped m t) where
   -- How the elimination of s with the right half t ends.
-  ended : GoodEnd m w (matrix s) (eliminated m w s t)
+  ended : Good m w (matrix s) (eliminated m w s t)
   ended =
       good m w (matrix s) w 0 (omega arith) (omega arith) s t
       record {
@@ -239,27 +233,26 @@ module _ {m w : ℕ} {s t : List Line} (S : Shaped m w s) (T : UnitShaped m t) w
       }
 
   -- Each column has its pivot: the right half becomes the inverse.
-  pub regular : (eliminated m w s t).verdict ≡ Regular
-      → Inverse bytes m w (matrix s) (matrix (eliminated m w s t).lines)
+  pub regular : {u : List Line} → eliminated m w s t ≡ Ok u → Inverse bytes m w (matrix s) (matrix u)
   unfolding Good
   regular e = rw e at ended
 
-  -- Column r has no pivot: the vector that is read off is taken to zero, and it is 1 at r.
-  pub stuck_kernel : {r : ℕ} → (eliminated m w s t).verdict ≡ Singular r
-      → Null m w (matrix s) r (kernel_from w r (eliminated m w s t).lines)
+  -- A column has no pivot: the vector that is read off is taken to zero, and it is 1 there.
+  pub stuck_kernel : {e : Singular} → eliminated m w s t ≡ Err e
+      → Null m w (matrix s) e.column (kernel_from w e.column e.lines)
   unfolding Good
-  stuck_kernel e = rw e at ended
+  stuck_kernel q = rw q at ended
 
   -- A column has no pivot exactly where the square takes some vector other than zero to zero.
-  pub singular_kernel : (singular (eliminated m w s t).verdict ≡ true) ↔ Kernel bytes m w (matrix s)
-  singular_kernel = go (eliminated m w s t).verdict refl
+  pub singular_kernel : (is_err (eliminated m w s t) ≡ true) ↔ Kernel bytes m w (matrix s)
+  singular_kernel = go (eliminated m w s t) refl
     where
-      go : (v : Verdict) → (eliminated m w s t).verdict ≡ v → (singular v ≡ true) ↔ Kernel bytes m w (matrix s)
-      go Regular e =
+      go : (v : Eliminated) → eliminated m w s t ≡ v → (is_err v ≡ true) ↔ Kernel bytes m w (matrix s)
+      go (Ok u) e =
           ((λ q. let z : ◌≡◌ {A = ℕ} 0 1 = cc in absurd (omega arith)), λ k. absurd (no_kernel bytes (regular e) k))
-      go (Singular r) e = ((λ q. null_kernel m w (matrix s) (stuck_kernel e)), λ k. refl)
+      go (Err e) q = ((λ z. null_kernel m w (matrix s) (stuck_kernel q)), λ k. refl)
 
 -- no column without a pivot
-pub not_singular : (v : Verdict) → singular v ≡ false → v ≡ Regular
-not_singular Regular e = refl
-not_singular (Singular r) e = let z : ◌≡◌ {A = ℕ} 0 1 = cc in absurd (omega arith)
+pub not_singular : (v : Eliminated) → is_err v ≡ false → v ≡ Ok (lines_of v)
+not_singular (Ok u) e = refl
+not_singular (Err e) q = let z : ◌≡◌ {A = ℕ} 0 1 = cc in absurd (omega arith)

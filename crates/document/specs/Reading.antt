@@ -17,14 +17,14 @@
 --                             what y holds then
 -- read_of p nodes x y        : the same for any numbers p
 --
--- From `square`: eliminated rows columns s t is how the elimination of s beside t ends, with `Regular` and what became
--- of t if each column has a pivot.
+-- From `square`: eliminated rows columns s t is how the elimination of s beside t ends, with `Ok` and what became of t if
+-- each column has a pivot.
 --
 -- To be believed is joined_columns. All else only computes, from coefficient_at to data_from: demand 2
 -- (demands/specs/Reading.antt) says that the test of refusal 10 is true exactly where some two different data give
 -- equal columns, and that the data read back are otherwise the only ones with these columns. What the other tests come
 -- to is said line by line there too.
-use Rattle.std.specs.Prelude.{Bool, true, false, ◌&&◌, not, List, [], ◌∷◌, ◌++◌, ℕ, zero, suc, ◌+◌, ◌*◌, ◌/◌, ◌%◌, eqb, leb, ltb, length, get_or, Ok, Err}
+use Rattle.std.specs.Prelude.{Bool, true, false, ◌&&◌, not, List, [], ◌∷◌, ◌++◌, ℕ, zero, suc, ◌+◌, ◌*◌, ◌/◌, ◌%◌, eqb, leb, ltb, length, get_or, is_err, Ok, Err}
 use Rattle.std.proofs.Math.Decide.{ℕ_discrete}
 use Rattle.lists.specs.Listed.{listed}
 use Rattle.algebra.specs.Pick.{pick}
@@ -32,8 +32,7 @@ use Rattle.algebra.specs.Sum.{sum}
 use Rattle.algebra.specs.Weight.{weight}
 use Rattle.square.specs.declared.Line.{Line}
 use Rattle.square.specs.Steps.{entry, unit_square}
-use Rattle.square.specs.declared.Eliminated.{Eliminated}
-use Rattle.square.specs.Elimination.{eliminated, singular}
+use Rattle.square.specs.Elimination.{Eliminated, eliminated, lines_of}
 use Rattle.document.specs.declared.Numbers.{Numbers}
 use Rattle.document.specs.declared.Profile.{Profile}
 use Rattle.document.specs.declared.Place.{Place}
@@ -92,10 +91,10 @@ module _ (p : Profile) where
 
   -- The test of refusal 10, 'whatever bytes the lent columns hold': it does not look at them.
   unfoldable pub ambiguous : List ℕ → Bool
-  ambiguous nodes = singular (elimination_of nodes).verdict
+  ambiguous nodes = is_err (elimination_of nodes)
 
   unfoldable pub inverse_of : List ℕ → List Line
-  inverse_of nodes = (elimination_of nodes).lines
+  inverse_of nodes = lines_of (elimination_of nodes)
 
   -- Each data symbol is the sum of the joined columns' symbols at its byte offset, times its line of the inverse.
   unfoldable pub data_from : List ℕ → List ℕ → List ℕ

@@ -1,4 +1,5 @@
 -- The entries of the small system, as they are computed, and its verdict.
+use Rattle.std.specs.Prelude.{Ok, Err, is_err}
 use mathlib.Core.Path.{◌≡◌, refl, sym, ap, ap₂, subst, ◌∙◌}
 use mathlib.Core.Bool.{Bool, true, false, cond}
 use mathlib.Core.List.{List}
@@ -22,9 +23,9 @@ use Rattle.algebra.proofs.Field.{zero-add}
 use Rattle.algebra.proofs.Elimination.{kernel_ext, inverse_ext}
 use Rattle.algebra.proofs.Pick.{pick_yes, pick_no}
 use Rattle.square.specs.declared.Line.{Line}
-use Rattle.square.specs.declared.Verdict.TheVariants.{Regular, Singular}
+use Rattle.square.specs.declared.Singular.{Singular}
 use Rattle.square.specs.Steps.{no_line, line_at, entry, filled, unit_square}
-use Rattle.square.specs.Elimination.{eliminated}
+use Rattle.square.specs.Elimination.{Eliminated, eliminated}
 use Rattle.square.proofs.Steps.{filled_at, filled_rest, filled_length, set_at}
 use Rattle.document.specs.declared.Profile.{Profile}
 use Rattle.document.specs.declared.Place.{Place}
@@ -217,21 +218,28 @@ module _ (p : Profile) (nodes : List ℕ) where
     unfolding half_pairs
     few_halves = omega (arith, rising_length (is_half_pair p nodes) (k * A), square_bound p acc)
 
-    pub stuck_ambiguous : (r : ℕ) → (system_end p nodes).verdict ≡ Singular r → ambiguous p nodes ≡ true
-    stuck_ambiguous r e =
+    pub stuck_ambiguous : {e : Singular} → system_end p nodes ≡ Err e → ambiguous p nodes ≡ true
+    stuck_ambiguous e =
         kernel_ambiguous p nodes acc rises
         (kernel_ext bytes (system_matrix few_halves)
         (null_kernel _ _ _ (stuck_kernel (system_shaped few_halves) (unit_square_lem 80 few_halves) e)))
 
     -- and the lines are those of the inverse
-    pub regular_inverse : (system_end p nodes).verdict ≡ Regular
-        → Inverse bytes (U p nodes) (U p nodes) (system_at p nodes) (matrix (system_end p nodes).lines)
+    pub regular_inverse : {u : List Line} → system_end p nodes ≡ Ok u
+        → Inverse bytes (U p nodes) (U p nodes) (system_at p nodes) (matrix u)
     regular_inverse e =
         inverse_ext bytes (system_matrix few_halves) (λ i j h l. refl)
         (regular (system_shaped few_halves) (unit_square_lem 80 few_halves) e)
 
-    pub regular_clear : (system_end p nodes).verdict ≡ Regular → ambiguous p nodes ≡ false
+    pub regular_clear : {u : List Line} → system_end p nodes ≡ Ok u → ambiguous p nodes ≡ false
     regular_clear e = inverse_clear p nodes acc rises (regular_inverse e)
+
+    pub end_ambiguous : is_err (system_end p nodes) ≡ ambiguous p nodes
+    end_ambiguous = go (system_end p nodes) refl
+      where
+        go : (v : Eliminated) → system_end p nodes ≡ v → is_err v ≡ ambiguous p nodes
+        go (Ok u) e = sym (regular_clear e)
+        go (Err d) e = sym (stuck_ambiguous e)
 
 -- ---- as the code has it
 module _ {p : Profile} {nodes : List ℕ} {h : HalfPairs} (made : HalfPairsOf p nodes h) where

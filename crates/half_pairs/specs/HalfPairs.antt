@@ -31,8 +31,7 @@ use Rattle.algebra.specs.Coupling.{Array}
 use Rattle.algebra.specs.HalfPairs.{weight_at, half_factor, system}
 use Rattle.square.specs.declared.Line.{Line}
 use Rattle.square.specs.Steps.{side, filled, unit_square}
-use Rattle.square.specs.declared.Eliminated.{Eliminated}
-use Rattle.square.specs.Elimination.{eliminated}
+use Rattle.square.specs.Elimination.{Eliminated, eliminated}
 use Rattle.document.specs.declared.Profile.{Profile}
 use Rattle.document.specs.declared.Place.{Place}
 use Rattle.document.specs.Profile.{max_nodes}

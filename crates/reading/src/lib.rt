@@ -13,7 +13,7 @@ ghost use Rattle.reading.specs.Steps.{known_partner_strip, known_partner_strips}
 ghost use Rattle.reading.specs.Steps.{completed_strip, completed, base_column, base_columns, data_by, reading_answer};
 
 use document::{Numbers, Profile, Refusal};
-use square::{Line, SIDE, Verdict};
+use square::{Line, SIDE};
 
 // Whether the list is k strictly rising numbers below n.
 fn accepts_list(nodes: &[u8], n: usize, k: usize) -> bool
@@ -277,28 +277,23 @@ fn read_from(p: Profile, nodes: &[u8], columns: &[u8], output: &mut [u8]) -> Res
     let h = half_pairs::of_nodes(p, nodes);
     let s = half_pairs::small_system(p, nodes, &h);
     let count = h.count;
-    let e = square::invert(s, count, count);
-    let verdict = e.verdict;
-    match verdict {
-        Verdict::Singular(_) => Err(Refusal::Ambiguous),
-        Verdict::Regular => {
-            let positions = h.positions;
-            let table = h.table;
-            let halves = h.halves;
-            let lines = e.lines;
-            put_data(
-                output,
-                p,
-                nodes,
-                &positions,
-                &table,
-                &halves[..count],
-                columns,
-                lines,
-            );
-            Ok(0)
-        }
-    }
+    let Ok(lines) = square::invert(s, count, count) else {
+        return Err(Refusal::Ambiguous);
+    };
+    let positions = h.positions;
+    let table = h.table;
+    let halves = h.halves;
+    put_data(
+        output,
+        p,
+        nodes,
+        &positions,
+        &table,
+        &halves[..count],
+        columns,
+        lines,
+    );
+    Ok(0)
 }
 
 // Reads back with an accepted profile.

@@ -1,19 +1,21 @@
 -- The laws of the steps: a list filled from its front, a multiple of a line added, a step of the whole square.
-use mathlib.Core.Path.{◌≡◌, refl, sym, ap, ◌∙◌}
+use mathlib.Core.Path.{◌≡◌, refl, sym, ap, ap₂, ◌∙◌}
 use mathlib.Core.Bool.{cond}
-use mathlib.Core.List.{List}
+use mathlib.Core.List.{List, ◌++◌}
 use Prim.Native.Nat.{ℕ, zero, suc, ◌+◌, ◌-◌, ◌≤◌, ◌<◌}
 use native.Mathlib.Numerals.{add-one}
 use native.Mathlib.Decide.{ℕ_discrete}
 use native.Mathlib.Nat.{not-suc-le-zero}
 use native.Mathlib.Omega.{arith}
 use lib.Dec.{eqb}
-use lib.ListN.{length, get_or, set, replicate, length-set, length-replicate, get_or-replicate}
+use Rattle.std.proofs.lemmas.List.{take-append-drop, get_or_append_left, set-append_left}
+use lib.ListN.{length, get_or, set, take, drop, replicate, length-set, length-replicate, get_or-replicate}
 use lib.Seq.{ext_get_or, get_or-set_same, get_or-set_other}
 use borrow.Author.Tests.{eq-eqb, ne_eqb}
 use Rattle.lists.specs.Listed.{listed}
 use Rattle.lists.proofs.Listed.{listed_length, listed_at}
 use Rattle.strips.specs.Strips.{added_scaled}
+use Rattle.strips.proofs.Added.{added_none}
 use Rattle.square.specs.declared.Line.{Line}
 use Rattle.square.specs.Steps.{no_line, line_at, filled, stepped, unit_line}
 
@@ -101,6 +103,32 @@ module _ (c : ℕ → ℕ) (p : ℕ) (s : List Line) (rows : ℕ) where
   pub stepped_rest : (i : ℕ) → rows ≤ i → line_at (stepped c p s rows) i ≡ line_at s i
   unfolding stepped
   stepped_rest i h = ap (λ (x : Line). x.c) (filled_rest _ s rows i no_line h)
+
+-- ---- the same, line by line: of a front of the lines the first i are stepped
+module _ (c : ℕ → ℕ) (p : ℕ) (s : List Line) where
+  pub stepped_none : (rows : ℕ) → take rows s ++ drop rows s ≡ stepped c p s 0
+  unfolding stepped filled
+  stepped_none rows = take-append-drop rows s
+
+  module _ (i : ℕ) (front rest : List Line) (h : i < length front) (e : front ++ rest ≡ stepped c p s i) where
+    as_it_was : line_at front i ≡ line_at s i
+    as_it_was =
+        ap (λ (x : Line). x.c) (sym (get_or_append_left front rest no_line i h))
+        ∙ ap (λ (x : List Line). line_at x i) e ∙ stepped_rest c p s i i (omega arith)
+
+    pub stepped_next : {w : Line} → w ≡ record { c = added_scaled (c i) 0 (line_at s p) (line_at front i) }
+        → set front i w ++ rest ≡ stepped c p s (i + 1)
+    unfolding stepped
+    stepped_next {w} q =
+        sym (set-append_left front rest i w h)
+        ∙ ap₂ (λ (x : List Line) (y : Line). set x i y) e
+        (q ∙ ap (λ (x : List ℕ). record { c = added_scaled (c i) 0 (line_at s p) x }) as_it_was)
+        ∙ filled_next (λ k. record { c = added_scaled (c k) 0 (line_at s p) (line_at s k) }) s i
+
+    -- a line that is left alone, since 0 times a line is added to it
+    pub stepped_skip : c i ≡ 0 → set front i (get_or front i no_line) ++ rest ≡ stepped c p s (i + 1)
+    stepped_skip z =
+        stepped_next (ap (λ (x : List ℕ). record { c = x }) (sym (added_none (c i) (line_at s p) (line_at front i) z)))
 
 -- the multipliers count below `rows` alone
 pub stepped_ext : (c e : ℕ → ℕ) (p : ℕ) (s : List Line) (rows : ℕ) → ((i : ℕ) → i < rows → c i ≡ e i)

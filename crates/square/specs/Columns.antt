@@ -1,4 +1,4 @@
--- A column's entries, kept beside the square.
+-- A column's entries, and what clears it.
 --
 -- Holds x j v           : v is the entry of the line x in column j, which x reaches, and a byte
 -- Gathered f j rows i e : e has room for rows entries, and holds those in column j of the first i of the lines f 0,
@@ -7,13 +7,10 @@
 -- Multipliers e r p c   : c i is what line i is given of line r once line p, the pivot's, is added to it where they are
 --                         two. e has the entries before that: the inverse of the pivot times line i's, and for line r
 --                         what makes its pivot 1
--- Cleared c r rows b z  : z is b after the step that adds c i times line r to each line i below rows, with the entries
---                         of the column after r; of column 0 past the last that there is room for
-use Rattle.std.specs.Prelude.{◌≡◌, cond, List, ℕ, ◌+◌, ◌%◌, ◌≤◌, ◌<◌, eqb, length, get_or}
+use Rattle.std.specs.Prelude.{◌≡◌, cond, List, ℕ, ◌≤◌, ◌<◌, eqb, length, get_or}
 use Rattle.gf256.specs.Field.{◌⊕◌, ◌⊗◌, inverse}
 use Rattle.square.specs.declared.Line.{Line}
-use Rattle.square.specs.declared.Left.{Left}
-use Rattle.square.specs.Steps.{side, line_at, stepped}
+use Rattle.square.specs.Steps.{side, line_at}
 
 pub record Holds (x : List ℕ) (j v : ℕ) : Type 0 where
   pub value : v ≡ get_or x j 0
@@ -30,7 +27,3 @@ EntriesOf s j rows e = Gathered (line_at s) j rows rows e
 pub record Multipliers (e : List ℕ) (r p : ℕ) (c : List ℕ) : Type 0 where
   pub at : (i : ℕ) → i < side
       → get_or c i 0 ≡ cond (eqb i r) (1 ⊕ inverse (get_or e p 0)) (inverse (get_or e p 0) ⊗ get_or e i 0)
-
-pub record Cleared (c : ℕ → ℕ) (r rows : ℕ) (b : List Line) (z : Left) : Type 0 where
-  pub lines : z.lines ≡ stepped c r b rows
-  pub entries : EntriesOf z.lines ((r + 1) % side) rows z.entries

@@ -1,3 +1,4 @@
 pub mod Steps
 pub mod Elimination
 pub mod Columns
+pub mod Clearing

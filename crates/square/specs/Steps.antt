@@ -13,13 +13,11 @@
 -- pivot_from s j i rows : the same of the lines from i on, below rows
 -- unit_line m r         : line r of the unit square of m lines
 -- unit_square m         : the unit square of m lines
-use Rattle.std.specs.Prelude.{cond, List, [], ℕ, zero, suc, ◌+◌, ◌-◌, get_or, set, eqb}
+use Rattle.std.specs.Prelude.{cond, List, [], ℕ, zero, suc, ◌+◌, ◌-◌, get_or, set, eqb, Option, Some, None}
 use Rattle.lists.specs.Listed.{listed}
 use Rattle.gf256.specs.Field.{◌⊕◌, ◌⊗◌, inverse}
 use Rattle.strips.specs.Strips.{added_scaled}
 use Rattle.square.specs.declared.Line.{Line}
-use Rattle.square.specs.declared.Pivot.{Pivot}
-use Rattle.square.specs.declared.Pivot.TheVariants.{At, Missing}
 
 -- 'The coefficient square of one reading, at most 80 by 80 field elements'
 abbrev pub side : ℕ
@@ -50,11 +48,11 @@ lifted r p s = cond (eqb p r) s (set s r (record { c = added_scaled 1 0 (line_at
 unfoldable pub multiplier_at : List Line → ℕ → ℕ → ℕ → ℕ
 multiplier_at s r j i = cond (eqb i r) (1 ⊕ inverse (entry s r j)) (inverse (entry s r j) ⊗ entry s i j)
 
-unfoldable pub pivot_in : List Line → ℕ → ℕ → ℕ → Pivot
-pivot_in s j i zero = Missing
-pivot_in s j i (suc n) = cond (eqb (entry s i j) 0) (pivot_in s j (i + 1) n) (At i)
+unfoldable pub pivot_in : List Line → ℕ → ℕ → ℕ → Option ℕ
+pivot_in s j i zero = None
+pivot_in s j i (suc n) = cond (eqb (entry s i j) 0) (pivot_in s j (i + 1) n) (Some i)
 
-abbrev pub pivot_from : List Line → ℕ → ℕ → ℕ → Pivot
+abbrev pub pivot_from : List Line → ℕ → ℕ → ℕ → Option ℕ
 pivot_from s j i rows = pivot_in s j i (rows - i)
 
 unfoldable pub unit_line : ℕ → ℕ → List ℕ

@@ -9,7 +9,6 @@ ghost use Rattle.document.specs.Survey.{result_of, survey_with, survey_of};
 ghost use Rattle.survey.specs.Steps.{Found};
 
 use document::{Numbers, Profile, Refusal, Surveyed};
-use square::Verdict;
 
 // Whether a set fails: whether the system of its half pairs is singular.
 fn fails(p: Profile, set: &[u8]) -> bool
@@ -19,11 +18,7 @@ fn fails(p: Profile, set: &[u8]) -> bool
     let h = half_pairs::of_nodes(p, set);
     let lines = half_pairs::small_system(p, set, &h);
     let count = h.count;
-    let verdict = square::judge(lines, count, count);
-    match verdict {
-        Verdict::Singular(_) => true,
-        Verdict::Regular => false,
-    }
+    square::judge(lines, count, count).is_some()
 }
 
 // The next set, if it is to be looked at.

@@ -8,12 +8,11 @@ use lib.ListN.{set, replicate, length-replicate, get_or-replicate}
 use Rattle.square.specs.declared.Line.{Line}
 use Rattle.square.specs.Steps.{no_line, line_at, filled, unit_line, unit_square}
 use Rattle.square.proofs.Steps.{filled_none, filled_next, filled_rest, filled_all, unit_line_set}
-use borrow.Author.Rules.{rules}
 use Rattle.square.proofs.unit_square.Invariants.{unit_at, zeros}
 use Rattle.square.proofs.unit_square.Goals as goal
 
 pub loop-i-init : goal.loop-i-init
-loop-i-init c = (search rules, filled_none _ _)
+loop-i-init c = filled_none _ _
 
 -- the line to be written next
 next : (z : List Line) (i : ℕ) → i < 80 → z ≡ filled unit_at (replicate 80 zeros) i
@@ -27,17 +26,15 @@ next z i h e =
 
 pub loop-i-preserved : goal.loop-i-preserved
 loop-i-preserved c =
-    let l = c.loop-i in (
-      search rules,
-      ap₂ (λ (x : List Line) (k : List ℕ). set x l.i (record { c = k })) l.invariant.1
-          (next l.z l.i (omega arith) l.invariant.1)
-          ∙ filled_next unit_at _ l.i,
-    )
+    let l = c.loop-i in
+    ap₂ (λ (x : List Line) (k : List ℕ). set x l.i (record { c = k })) l.invariant
+    (next l.line-items l.i (omega arith) l.invariant)
+    ∙ filled_next unit_at _ l.i
 
 pub returns : goal.returns
 unfolding unit_square
 returns c =
     let l = c.loop-i in
     let e : l.i ≡ 80 = omega arith in
-    l.invariant.1 ∙ ap (filled unit_at (replicate 80 zeros)) e
+    l.invariant ∙ ap (filled unit_at (replicate 80 zeros)) e
     ∙ filled_all unit_at (replicate 80 zeros) 80 no_line (length-replicate 80 zeros)

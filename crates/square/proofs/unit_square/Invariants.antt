@@ -1,7 +1,7 @@
 -- `square::unit_square` meets its contract. The loop's invariant: the lines passed have their 1, the others are zeros;
 -- 80 of them are all.
 use mathlib.Core.Path.{◌≡◌}
-use Prim.Native.Nat.{ℕ, ◌-◌, ◌≤◌}
+use Prim.Native.Nat.{ℕ}
 use lib.ListN.{replicate}
 use Rattle.square.specs.declared.Line.{Line}
 use Rattle.square.specs.Steps.{filled, unit_line}
@@ -14,7 +14,4 @@ abbrev pub zeros : Line
 zeros = record { c = replicate 80 0 }
 
 abbrev pub invariant-loop-i : goal.invariant-loop-i
-invariant-loop-i l = (l.i ≤ 80) × (l.z ≡ filled unit_at (replicate 80 zeros) l.i)
-
-abbrev pub decreases-loop-i : goal.decreases-loop-i
-decreases-loop-i l = 80 - l.i
+invariant-loop-i l = l.line-items ≡ filled unit_at (replicate 80 zeros) l.i

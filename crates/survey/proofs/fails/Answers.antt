@@ -1,32 +1,26 @@
--- `survey::fails` meets its contract: the verdict on the system of the half pairs tells whether the set is ambiguous.
-use mathlib.Core.Path.{◌≡◌, sym, ap, ◌∙◌}
-use Rattle.square.specs.declared.Eliminated.{Eliminated}
-use Rattle.half_pairs.specs.HalfPairs.{system_end}
-use Rattle.half_pairs.proofs.System.{stuck_ambiguous, regular_clear, count_few, system_end_lem}
-use Rattle.survey.proofs.fails.Goals.{After-judge-verdict, Start}
+-- `survey::fails` meets its contract: a set is ambiguous where the system of its half pairs has a column without a pivot.
+use Rattle.std.proofs.Common.{◌≡◌, ◌∙◌, Bool, refl, ap, is_some, is_err, option_map}
+use Rattle.std.specs.Prelude.{Ok, Err}
+use Rattle.std.specs.Result.{result_err}
+use Rattle.square.specs.Elimination.{Eliminated}
+use Rattle.half_pairs.proofs.System.{end_ambiguous, count_few, system_end_lem}
 use Rattle.survey.proofs.fails.Goals as goal
 
-pub judge-verdict-requires : goal.judge-verdict-requires
-judge-verdict-requires c =
+-- what the column without a pivot tells
+abbrev stuck : Eliminated → Bool
+stuck v = is_some (option_map (λ e. e.column) (result_err v))
+
+stuck_err : (v : Eliminated) → stuck v ≡ is_err v
+stuck_err (Ok u) = refl
+stuck_err (Err e) = refl
+
+pub judge-requires : goal.judge-requires
+judge-requires c =
     let few = count_few c.of_nodes-h.ensures c.requires.0 c.requires.1 in
     (few, few)
 
--- past the elimination: the verdict is that on the system of the set
-module _ (c : After-judge-verdict) where
-  judged : c.judge-verdict.result ≡ (system_end c.args.p c.args.set.now).verdict
-  judged =
-      c.judge-verdict.ensures
-      ∙ ap (λ (e : Eliminated). e.verdict)
-      (system_end_lem c.of_nodes-h.ensures c.small_system-lines.ensures)
-
-pub returns-in-Singular : goal.returns-in-Singular
-returns-in-Singular c =
-    sym
-    (stuck_ambiguous c.args.p c.args.set.now c.requires.0 c.requires.1 _
-    (sym (judged (goal.at.returns-in-Singular c).After-judge-verdict) ∙ c.in-Singular.is))
-
-pub returns-in-Regular : goal.returns-in-Regular
-returns-in-Regular c =
-    sym
-    (regular_clear c.args.p c.args.set.now c.requires.0 c.requires.1
-    (sym (judged (goal.at.returns-in-Regular c).After-judge-verdict) ∙ c.in-Regular.is))
+pub returns : goal.returns
+returns c =
+    c.is_some.ensures ∙ ap is_some c.judge.ensures
+    ∙ ap stuck (system_end_lem c.of_nodes-h.ensures c.small_system-lines.ensures) ∙ stuck_err _
+    ∙ end_ambiguous c.args.p c.args.set.now c.requires.0 c.requires.1
