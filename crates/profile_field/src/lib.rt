@@ -4,7 +4,6 @@
 ghost use Rattle.std.specs.Prelude.{◌≡◌, ◌+◌, ◌≤◌, length, take};
 ghost use Rattle.lists.specs.Put.{slice, same, Wrote};
 ghost use Rattle.fields.specs.Fields.{opening, opening_length, field_of};
-ghost use Rattle.document.specs.Profile.{Accepted};
 ghost use Rattle.document.specs.Message.{profile_content, profile_content_length, profile_field_length};
 
 use document::Profile;
@@ -26,7 +25,6 @@ fn content_length(p: Profile) -> usize
 
 // The content: as many of these bytes as it is long. There is no heap: the caller cuts them.
 fn content_bytes(p: Profile) -> [u8; MAX_CONTENT]
-    requires { Accepted p }
     ensures { take (profile_content_length p) result ≡ profile_content p }
 {
     let [high, low] = fields::two_bytes(p.s);
@@ -43,7 +41,7 @@ pub fn field_length(p: Profile) -> usize
 
 // Writes the field, and returns the position after it.
 pub fn put(out: &mut [u8], at: usize, p: Profile) -> usize
-    requires { Accepted p × (at + profile_field_length p ≤ length out.old) }
+    requires { at + profile_field_length p ≤ length out.old }
     ensures { Wrote out.old at (field_of 1 (profile_content p)) result out.new }
 {
     let content = content_bytes(p);
@@ -63,7 +61,7 @@ pub fn opened(p: Profile, b: &[u8], at: usize) -> bool
 
 // Whether its content is that of this profile.
 pub fn same_content(p: Profile, b: &[u8], at: usize) -> bool
-    requires { Accepted p × (at + profile_field_length p ≤ length b.now) }
+    requires { at + profile_field_length p ≤ length b.now }
     ensures { result
         ≡ same (slice b.now (at + opening_length) (profile_content_length p)) (profile_content p) }
 {

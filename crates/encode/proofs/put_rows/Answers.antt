@@ -12,12 +12,13 @@ use Rattle.encode.proofs.put_rows.Goals as goal
 pub loop-j-init : goal.loop-j-init
 loop-j-init c =
     let p = c.args.p in
+    let acc = is_accepted c.p.view_is c.p.invariant in
     let x = c.args.input.now in
     rw (fields c.p.view_is) (record {
       size = search rules;
       columns = first_columns p (base_at p x) p.k c.copy_from_slice.new.self _
           (c.copy_from_slice.ensures.after
-          ∙ data_columns p x (is_accepted c.p.view_is c.p.invariant) c.requires.0 (λ e. omega (arith, c.type_inv.input e)));
+          ∙ data_columns p x acc c.requires.0 (λ e. omega (arith, c.type_inv.input e)));
     })
 
 pub loop-j-preserved : goal.loop-j-preserved

@@ -4,9 +4,11 @@ use mathlib.Core.Path.{◌≡◌, refl}
 use mathlib.Core.Bool.{Bool, true, false, cond}
 use mathlib.Core.List.{[], ◌∷◌}
 use Prim.Native.Nat.{ℕ}
+use lib.Dec.{eqb}
 use lib.ListN.{length, take}
 use Rattle.fields.specs.Fields.{two_bytes}
 use Rattle.document.specs.Message.{edition_bytes, profile_content}
+use Rattle.document.proofs.Fields.{fields}
 use Rattle.profile_field.proofs.content_bytes.Goals as goal
 
 last : (first : Bool) (e : ℕ) → take (length (cond first [] (e ∷ []))) (e ∷ []) ≡ cond first [] (e ∷ [])
@@ -15,4 +17,6 @@ last false e = refl
 
 pub returns : goal.returns
 unfolding profile_content two_bytes edition_bytes
-returns c = rw (c.two_bytes.ensures, last)
+returns c =
+    let e = c.args.p.edition in
+    rw (c.two_bytes.ensures, fields c.p.view_is, last (eqb e 1) e)
