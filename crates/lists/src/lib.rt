@@ -6,6 +6,10 @@ ghost use Rattle.std.specs.Prelude.{◌≡◌, cond, [], ◌∷◌, ◌+◌, ◌
 ghost use Rattle.lists.specs.Put.{slice, same, Wrote};
 ghost use Rattle.lists.specs.Positions.{position_in};
 
+mod cut;
+
+pub use cut::each_part;
+
 // Writes the bytes of src, and returns the position after them.
 pub fn put_bytes(out: &mut [u8], at: usize, src: &[u8]) -> usize
     requires { at + length src.now ≤ length out.old }
