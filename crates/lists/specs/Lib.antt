@@ -2,3 +2,4 @@ pub mod Listed
 pub mod Put
 pub mod Each
 pub mod Positions
+pub mod Parts

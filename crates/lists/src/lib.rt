@@ -5,6 +5,10 @@
 ghost use Rattle.std.specs.Prelude.{◌≡◌, cond, [], ◌∷◌, ◌+◌, ◌≤◌, ◌<◌, length};
 ghost use Rattle.lists.specs.Put.{slice, same, Wrote};
 
+mod cut;
+
+pub use cut::each_part;
+
 // Writes the bytes of src, and returns the position after them.
 #[tactic(auto, unfolding(crate::specs::Put::put))]
 pub fn put_bytes(out: &mut [u8], at: usize, src: &[u8]) -> usize

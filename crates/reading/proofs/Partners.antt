@@ -1,13 +1,16 @@
--- The partners of the half pairs: how long the strips are, where those of a row lie, and how they are completed.
+-- The partners of the half pairs: how long their strips are, where those of a row lie, how they are completed, and that they
+-- are no more than all strips.
 use mathlib.Core.Path.{◌≡◌, refl}
+use mathlib.Core.Bool.{not}
 use mathlib.Core.List.{List}
 use Prim.Native.Nat.{ℕ, ◌+◌, ◌*◌, ◌≤◌, ◌<◌}
-use native.Mathlib.Nat.{add-mul, mul_assoc, mul-le-mul}
+use native.Mathlib.Nat.{add-mul, mul_assoc, mul-le-mul_right}
 use native.Mathlib.Numerals.{add-one}
 use native.Mathlib.Omega.{arith}
 use lib.Arith.{digits_lt}
 use lib.ListN.{length}
 use Rattle.lists.proofs.Listed.{listed_length}
+use Rattle.lists.proofs.Rising.{rising_length}
 use Rattle.ksets.specs.Sets.{Rising}
 use Rattle.strips.specs.Strips.{combination_of}
 use Rattle.square.specs.declared.Line.{Line}
@@ -15,14 +18,9 @@ use Rattle.square.specs.Steps.{line_at}
 use Rattle.document.specs.declared.Profile.{Profile}
 use Rattle.document.specs.Profile.{Accepted}
 use Rattle.document.proofs.Bounds.{room}
-use Rattle.half_pairs.specs.HalfPairs.{half_pair_at}
+use Rattle.half_pairs.specs.HalfPairs.{is_named, partner_at, half_pairs, half_pair_at}
 use Rattle.half_pairs.proofs.Symbols.{U, half_each}
-use Rattle.half_pairs.proofs.System.{few_halves}
-use Rattle.reading.specs.Steps.{known_partner_strip, partner_strip, completed_strip, completed}
-
-pub known_partner_length : (p : Profile) (nodes y : List ℕ) (z : ℕ) → length (known_partner_strip p nodes y z) ≡ p.s
-unfolding known_partner_strip combination_of
-known_partner_length p nodes y z = listed_length p.s _
+use Rattle.reading.specs.Steps.{partner_strip, completed_strip, completed}
 
 pub partner_length : (p : Profile) (nodes line r : List ℕ) → length (partner_strip p nodes line r) ≡ p.s
 unfolding partner_strip combination_of
@@ -50,5 +48,9 @@ module _ (p : Profile) (acc : Accepted p) (nodes : List ℕ) (rises : Rising p.n
   pub half_below : (e : ℕ) → e < U p nodes → half_pair_at p nodes e < k * A
   half_below e h = (half_each p nodes acc rises e h).1
 
-  pub partners_bound : U p nodes * S ≤ 40960
-  partners_bound = mul-le-mul {n₁ = U p nodes} {m₁ = S} {n₂ = 80} {m₂ = 512} (few_halves p nodes acc rises) acc.short
+-- the partners' strips are no more than all strips
+pub halves_fit : (p : Profile) (nodes : List ℕ) → length (half_pairs p nodes) * p.s ≤ p.k * p.a * p.s
+unfolding half_pairs
+halves_fit p nodes =
+    mul-le-mul_right p.s
+    (rising_length (λ z. not (is_named p.k nodes (partner_at p nodes z).node.0)) (p.k * p.a))

@@ -23,17 +23,12 @@ fn accepts_list(nodes: &[u8], n: usize, k: usize) -> bool
         return false;
     }
     let mut lowest: usize = 0;
-    let mut i: usize = 0;
-    while i < nodes.len() {
-        let x = nodes[i] as usize;
-        if x < lowest {
-            return false;
-        }
-        if n <= x {
+    for node in nodes {
+        let x = *node as usize;
+        if x < lowest || n <= x {
             return false;
         }
         lowest = x + 1;
-        i += 1;
     }
     true
 }
@@ -50,24 +45,17 @@ fn known_strip(out: &mut [u8], p: Profile, nodes: &[u8], positions: &[u8], colum
     let r = p.partner(q);
     let j = r.node.0;
     let at = positions[j] as usize;
-    let own = z * s;
+    let from = z * s;
+    let own = &columns[from..from + s];
     if at >= p.k {
-        strips::copy(out, columns, own);
+        out.copy_from_slice(own);
         return;
     }
     let row = q.row;
     let f = p.factor(row, r.row.0);
     let d = gf256::inverse_of(coupling::determinant(p, row, r.row.0));
     let other = (at * p.a + r.row.0) * s;
-    let own_end = own + s;
-    let other_end = other + s;
-    coupling::uncouple(
-        out,
-        &columns[own..own_end],
-        &columns[other..other_end],
-        f,
-        d,
-    );
+    coupling::uncouple(out, own, &columns[other..other + s], f, d);
 }
 
 // The same of all strips.
@@ -76,15 +64,9 @@ fn known_strips(out: &mut [u8], p: Profile, nodes: &[u8], positions: &[u8], colu
     requires out_len { (length out.old ≡ p.k * p.a * p.s) × (length columns.now ≡ p.k * p.a * p.s) }
     ensures { out.new ≡ known_strips p nodes.now columns.now }
 {
-    let s = p.s;
-    let count = p.k * p.a;
-    let mut z: usize = 0;
-    while z < count {
-        let from = z * s;
-        let end = from + s;
-        known_strip(&mut out[from..end], p, nodes, positions, columns, z);
-        z += 1;
-    }
+    lists::each_part(out, p.s, p.k * p.a, |z, strip| {
+        known_strip(strip, p, nodes, positions, columns, z)
+    });
 }
 
 // What the known strips y give of the base strip at the partner of the half pair z: the sum of the strips of its row,
@@ -99,8 +81,7 @@ fn known_partner(out: &mut [u8], p: Profile, nodes: &[u8], table: &[u8], y: &[u8
     let s = p.s;
     let r = half_pairs::joined_partner(p, nodes, z);
     let from = r.node.0 * k;
-    let end = from + k;
-    strips::combine(out, y, r.row.0 * s, p.a * s, &table[from..end]);
+    strips::combine(out, y, r.row.0 * s, p.a * s, &table[from..from + k]);
 }
 
 // The same for each half pair: the right-hand sides of their system.
@@ -110,14 +91,9 @@ fn known_partners(out: &mut [u8], p: Profile, nodes: &[u8], table: &[u8], halves
         × (length y.now ≡ p.k * p.a * p.s) }
     ensures { out.new ≡ known_partner_strips p nodes.now y.now }
 {
-    let s = p.s;
-    let mut e: usize = 0;
-    while e < halves.len() {
-        let from = e * s;
-        let end = from + s;
-        known_partner(&mut out[from..end], p, nodes, table, y, halves[e] as usize);
-        e += 1;
-    }
+    lists::each_part(out, p.s, halves.len(), |e, strip| {
+        known_partner(strip, p, nodes, table, y, halves[e] as usize)
+    });
 }
 
 // Completes the e-th half pair: its partner is the sum of the right-hand sides r with line e of the inverse, and is
@@ -156,11 +132,8 @@ fn complete(y: &mut [u8], p: Profile, nodes: &[u8], halves: &[u8], r: &[u8], lin
     ensures { y.new
         ≡ completed p nodes.now lines r.now (length halves.now) y.old }
 {
-    let mut e: usize = 0;
-    while e < halves.len() {
-        let line = lines[e];
-        complete_strip(y, p, nodes, halves, r, line, e);
-        e += 1;
+    for e in 0..halves.len() {
+        complete_strip(y, p, nodes, halves, r, lines[e], e);
     }
 }
 
@@ -184,12 +157,12 @@ fn put_column(
     let width = p.a * p.s;
     let at = positions[j] as usize;
     if at < k {
-        strips::copy(out, y, at * width);
+        let from = at * width;
+        out.copy_from_slice(&y[from..from + width]);
         return;
     }
     let from = j * k;
-    let end = from + k;
-    strips::combine(out, y, 0, width, &table[from..end]);
+    strips::combine(out, y, 0, width, &table[from..from + k]);
 }
 
 // The base strips of the data nodes.
@@ -199,19 +172,14 @@ fn put_columns(out: &mut [u8], p: Profile, nodes: &[u8], positions: &[u8], table
         × (length y.now ≡ p.k * p.a * p.s) }
     ensures { out.new ≡ base_columns p nodes.now y.now }
 {
-    let k = p.k;
-    let width = p.a * p.s;
-    let mut j: usize = 0;
-    while j < k {
-        let from = j * width;
-        let end = from + width;
-        put_column(&mut out[from..end], p, nodes, positions, table, y, j);
-        j += 1;
-    }
+    lists::each_part(out, p.a * p.s, p.k, |j, column| {
+        put_column(column, p, nodes, positions, table, y, j)
+    });
 }
 
 // The data, by the lines of the inverse of the system. The strips of the named nodes stand in y; the right-hand sides
 // stand in the output until the data are written over them.
+#[tactic(auto, using(crate::proofs::Partners::halves_fit))]
 fn put_data_in(
     out: &mut [u8],
     y: &mut [u8],

@@ -1,13 +1,7 @@
 -- `reading::complete` meets its contract. The invariant: the half pairs before e are completed.
 use mathlib.Core.Path.{◌≡◌}
-use Prim.Native.Nat.{◌-◌, ◌≤◌}
-use lib.ListN.{length}
 use Rattle.reading.specs.Steps.{completed}
 use Rattle.reading.proofs.complete.Given as goal
 
 abbrev pub invariant-loop-e : goal.invariant-loop-e
-invariant-loop-e l =
-    (l.e ≤ length l.halves) × (length l.y ≡ length l.initial.y) × (l.y ≡ completed l.p l.nodes l.lines l.r l.e l.initial.y)
-
-abbrev pub decreases-loop-e : goal.decreases-loop-e
-decreases-loop-e l = length l.halves - l.e
+invariant-loop-e l = l.y ≡ completed l.p l.nodes l.lines l.r l.e l.initial.y

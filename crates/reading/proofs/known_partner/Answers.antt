@@ -9,7 +9,7 @@ use Rattle.strips.specs.Strips.{combination_of}
 use Rattle.document.specs.declared.Profile.{Profile}
 use Rattle.document.specs.declared.Place.{Place}
 use Rattle.document.specs.Places.{Within}
-use Rattle.document.proofs.Bounds.{room, table_bound, column_bound}
+use Rattle.document.proofs.Bounds.{room, table_bound}
 use Rattle.half_pairs.specs.HalfPairs.{weight_row}
 use Rattle.half_pairs.proofs.Named.{joined_partner_within}
 use Rattle.half_pairs.proofs.Table.{row_length, weight_table_length, row_at}
@@ -72,44 +72,30 @@ module _ (c : After-joined_partner-r) where
   lent_size : length (take width (drop (partner.node.0 * p.k) c.args.table.now)) ≡ p.k
   lent_size = ap length lent ∙ row_length p.k nodes partner.node.0 (risen_length c.requires.accepted.1)
 
-pub overflow_mul-from : goal.overflow_mul-from
-overflow_mul-from c = omega (arith, inside (goal.at.overflow_mul-from c).After-joined_partner-r)
-
-pub overflow_add-end : goal.overflow_add-end
-overflow_add-end c = omega (arith, inside (goal.at.overflow_add-end c).After-joined_partner-r)
-
-pub overflow_mul-r : goal.overflow_mul-r
-overflow_mul-r c =
-    omega (
-      arith,
-      room (partner (goal.at.overflow_mul-r c).After-joined_partner-r).row.0 (p (goal.at.overflow_mul-r c).After-joined_partner-r).a (p (goal.at.overflow_mul-r c).After-joined_partner-r).s (within (goal.at.overflow_mul-r c).After-joined_partner-r).row,
-      column_bound c.args.p c.requires.accepted.0,
-    )
-
-pub overflow_mul-p : goal.overflow_mul-p
-overflow_mul-p c =
-    omega (arith, column_bound c.args.p c.requires.accepted.0)
-
 pub slice_bounds-combine-end : goal.slice_bounds-combine-end
 slice_bounds-combine-end c =
+    let w = (goal.at.slice_bounds-combine-end c).After-joined_partner-r in
     omega (
       arith,
-      inside (goal.at.slice_bounds-combine-end c).After-joined_partner-r,
-      ap length c.requires.table_value.0 ∙ weight_table_length c.args.p c.requires.accepted.0 (nodes (goal.at.slice_bounds-combine-end c).After-joined_partner-r) c.requires.accepted.1,
+      inside w,
+      ap length c.requires.table_value.0 ∙ weight_table_length (p w) c.requires.accepted.0 (nodes w) c.requires.accepted.1,
     )
 
 pub combine-requires : goal.combine-requires
 combine-requires c =
+    let w = (goal.at.combine-requires c).After-joined_partner-r in
     let acc = c.requires.accepted.0 in
     record {
-      few = omega (arith, lent_size (goal.at.combine-requires c).After-joined_partner-r, acc.shape.some_parity, acc.shape.few_nodes);
+      few = omega (arith, lent_size w, acc.shape.some_parity, acc.shape.few_nodes);
       short = omega (arith, c.requires.table_value.1, acc.short);
       reach = λ q h.
-          let r = strip_fits (p (goal.at.combine-requires c).After-joined_partner-r) acc (nodes (goal.at.combine-requires c).After-joined_partner-r) c.requires.accepted.1 (partner (goal.at.combine-requires c).After-joined_partner-r).row.0 q (within (goal.at.combine-requires c).After-joined_partner-r).row (omega (arith, lent_size (goal.at.combine-requires c).After-joined_partner-r)) in
+          let r = strip_fits (p w) acc (nodes w) c.requires.accepted.1 (partner w).row.0 q (within w).row (omega (arith, lent_size w)) in
           omega (arith, r, c.requires.table_value.2);
     }
 
 pub returns : goal.returns
 returns c =
+    let w = (goal.at.returns c).After-joined_partner-r in
     c.combine.ensures
-    ∙ ap (combination_of _ c.args.y.now ((partner (goal.at.returns c).After-joined_partner-r).row.0 * (p (goal.at.returns c).After-joined_partner-r).s) ((p (goal.at.returns c).After-joined_partner-r).a * (p (goal.at.returns c).After-joined_partner-r).s)) c.requires.table_value.1 ∙ summed (goal.at.returns c).After-joined_partner-r
+    ∙ ap (combination_of _ c.args.y.now ((partner w).row.0 * (p w).s) ((p w).a * (p w).s)) c.requires.table_value.1
+    ∙ summed w

@@ -9,15 +9,14 @@ use lib.ListN.{length, get_or, take, drop}
 use Rattle.gf256.specs.Field.{inverse}
 use Rattle.algebra.specs.Coupling.{pair}
 use Rattle.ksets.proofs.Ranked.{risen_length}
-use Rattle.strips.specs.Strips.{strip_at}
-use Rattle.strips.proofs.Strip.{strip_length, strip_part}
+use Rattle.strips.proofs.Strip.{strip_part}
 use Rattle.document.specs.declared.Place.{Place}
 use Rattle.document.specs.declared.Profile.{Profile}
 use Rattle.document.specs.Places.{partner_of, Within}
 use Rattle.document.specs.Profile.{Accepted}
 use Rattle.document.specs.ByteField.{bytes, number}
 use Rattle.document.specs.Encoding.{factor_at}
-use Rattle.document.proofs.Bounds.{A>0, room, square_bound, data_bound, partner_within}
+use Rattle.document.proofs.Bounds.{A>0, room, partner_within}
 use Rattle.document.proofs.Reading.{joined_within}
 use Rattle.lists.specs.Positions.{position_in}
 use Rattle.coupling.specs.Pairs.{uncoupled_strip}
@@ -134,65 +133,19 @@ pub bounds-positions-j : goal.bounds-positions-j
 bounds-positions-j c =
     let w = (goal.at.bounds-positions-j c).After-partner-r in omega (arith, size w, below w)
 
-pub overflow_cast-at : goal.overflow_cast-at
-overflow_cast-at c = omega (arith, c.type_inv.positions c.partner-r.result.node.0)
-
-pub overflow_mul-own : goal.overflow_mul-own
-overflow_mul-own c =
-    let w = (goal.at.overflow_mul-own c).After-partner-r in omega (arith, own_fits w, data_bound (p w) (acc w))
-
-pub copy-requires : goal.copy-requires
-copy-requires c =
-    omega (arith, own_inside (goal.at.copy-requires c).After-partner-r, c.requires.positions_value.1)
+pub slice_bounds-own-end : goal.slice_bounds-own-end
+slice_bounds-own-end c = own_inside (goal.at.slice_bounds-own-end c).After-partner-r
 
 pub returns-then-at-p : goal.returns-then-at-p
 returns-then-at-p c =
     let w = (goal.at.returns-then-at-p c).After-partner-r in
-    c.copy.ensures
-    ∙ ap (strip_at (x w) (z w * (p w).s)) c.requires.positions_value.1
+    c.copy_from_slice.ensures.after ∙ strip_part (x w) (z w * (p w).s) (p w).s (own_inside w)
     ∙ known_stored (p w) (nodes w) (x w) (acc w) c.requires.accepted.1 (small w) (z w) c.requires.accepted.2
     (omega (arith, c.if-at-p.true, entry w))
 
-pub overflow_mul-other : goal.overflow_mul-other
-overflow_mul-other c =
-    let w = (goal.at.overflow_mul-other c).After-partner-r in
-    omega (arith, other_strip w c.if-at-p.false, square_bound (p w) (acc w))
-
-pub overflow_add-other : goal.overflow_add-other
-overflow_add-other c =
-    let w = (goal.at.overflow_add-other c).After-partner-r in
-    omega (arith, other_strip w c.if-at-p.false, square_bound (p w) (acc w))
-
-pub overflow_mul-other-2 : goal.overflow_mul-other-2
-overflow_mul-other-2 c =
-    let w = (goal.at.overflow_mul-other-2 c).After-partner-r in
-    omega (arith, other_fits w c.if-at-p.false, data_bound (p w) (acc w))
-
-pub overflow_add-own_end : goal.overflow_add-own_end
-overflow_add-own_end c =
-    let w = (goal.at.overflow_add-own_end c).After-partner-r in omega (arith, own_fits w, data_bound (p w) (acc w))
-
-pub overflow_add-other_end : goal.overflow_add-other_end
-overflow_add-other_end c =
-    let w = (goal.at.overflow_add-other_end c).After-partner-r in
-    omega (arith, other_fits w c.if-at-p.false, data_bound (p w) (acc w))
-
 pub slice_bounds-uncouple-end : goal.slice_bounds-uncouple-end
-slice_bounds-uncouple-end c = own_inside (goal.at.slice_bounds-uncouple-end c).After-partner-r
-
-pub slice_bounds-uncouple-end-2 : goal.slice_bounds-uncouple-end-2
-slice_bounds-uncouple-end-2 c = other_inside (goal.at.slice_bounds-uncouple-end-2 c).After-partner-r c.if-at-p.false
-
-pub uncouple-requires : goal.uncouple-requires
-uncouple-requires c =
-    let w = (goal.at.uncouple-requires c).After-partner-r in
-    let s = (p w).s in
-    let out = c.requires.positions_value.1 in
-    let start = from w c.if-at-p.false in (
-      omega (arith, out, (acc w).short),
-      ap length (strip_part (x w) (z w * s) s (own_inside w)) ∙ strip_length (x w) (z w * s) s ∙ sym out,
-      ap length (strip_part (x w) start s (other_inside w c.if-at-p.false)) ∙ strip_length (x w) start s ∙ sym out,
-    )
+slice_bounds-uncouple-end c =
+    other_inside (goal.at.slice_bounds-uncouple-end c).After-partner-r c.if-at-p.false
 
 -- the determinant is not 0
 pub inverse_of-d-requires : goal.inverse_of-d-requires

@@ -9,6 +9,7 @@ use lib.ListN.{length, get_or, take, drop}
 use borrow.Author.Tests.{lt-ltb, le-ltb}
 use Rattle.ksets.proofs.Ranked.{risen_length}
 use Rattle.strips.specs.Strips.{combination_of, strip_at}
+use Rattle.strips.proofs.Strip.{strip_part}
 use Rattle.document.proofs.Bounds.{room, table_bound, column_bound, data_bound}
 use Rattle.lists.specs.Positions.{position_in}
 use Rattle.half_pairs.specs.HalfPairs.{weight_row}
@@ -54,40 +55,28 @@ module _ (s : Start) where
       ∙ ap (λ (l : List ℕ). take k (drop (s.args.j * k) l)) s.requires.positions_value.1
       ∙ row_at s.args.p s.requires.accepted.0 s.args.nodes.now s.requires.accepted.1 s.args.j s.requires.accepted.2
 
-pub overflow_mul-width : goal.overflow_mul-width
-overflow_mul-width c =
-    omega (arith, column_bound c.args.p c.requires.accepted.0)
-
 pub bounds-positions-j : goal.bounds-positions-j
 bounds-positions-j c =
-    omega (arith, below (goal.at.bounds-positions-j c).Start, ap length c.requires.positions_value.0 ∙ table_length c.args.nodes.now)
-
-pub overflow_cast-at : goal.overflow_cast-at
-overflow_cast-at c = omega (arith, c.type_inv.positions c.args.j)
-
-pub overflow_mul-at : goal.overflow_mul-at
-overflow_mul-at c =
-    omega (arith, large (goal.at.overflow_mul-at c).Start, column (goal.at.overflow_mul-at c).Start _ c.if-at-k.true)
-
-pub copy-requires : goal.copy-requires
-copy-requires c =
-    omega (arith, column (goal.at.copy-requires c).Start _ c.if-at-k.true, whole (goal.at.copy-requires c).Start, c.requires.positions_value.2)
+    omega (
+      arith,
+      below (goal.at.bounds-positions-j c).Start,
+      ap length c.requires.positions_value.0 ∙ table_length c.args.nodes.now,
+    )
 
 pub returns-then-at-k : goal.returns-then-at-k
 unfolding base_column
 returns-then-at-k c =
+    let s = (goal.at.returns-then-at-k c).Start in
     let nodes = c.args.nodes.now in
-    let near : position_in nodes c.args.j < k (goal.at.returns-then-at-k c).Start = omega (arith, position (goal.at.returns-then-at-k c).Start, c.if-at-k.true) in
-    c.copy.ensures
-    ∙ ap₂ (λ (m w : ℕ). strip_at c.args.y.now (m * width (goal.at.returns-then-at-k c).Start) w) (position (goal.at.returns-then-at-k c).Start) c.requires.positions_value.2
-    ∙ sym (ap (λ b. cond b (strip_at c.args.y.now (position_in nodes c.args.j * width (goal.at.returns-then-at-k c).Start) (width (goal.at.returns-then-at-k c).Start))
-    (combination_of (weight_row (k (goal.at.returns-then-at-k c).Start) nodes c.args.j) c.args.y.now 0 (width (goal.at.returns-then-at-k c).Start) (width (goal.at.returns-then-at-k c).Start))) (lt-ltb _ _ near))
-
-pub overflow_mul-from : goal.overflow_mul-from
-overflow_mul-from c = omega (arith, inside (goal.at.overflow_mul-from c).Start)
-
-pub overflow_add-end : goal.overflow_add-end
-overflow_add-end c = omega (arith, inside (goal.at.overflow_add-end c).Start)
+    let y = c.args.y.now in
+    let j = c.args.j in
+    let w : ℕ = width s in
+    let near : position_in nodes j < k s = omega (arith, position s, c.if-at-k.true) in
+    c.copy_from_slice.ensures.after
+    ∙ strip_part y (get_or c.args.positions.now j 0 * w) w (omega (arith, column s _ c.if-at-k.true, whole s))
+    ∙ ap (λ (m : ℕ). strip_at y (m * w) w) (position s)
+    ∙ sym (ap (λ b. cond b (strip_at y (position_in nodes j * w) w) (combination_of (weight_row (k s) nodes j) y 0 w w))
+    (lt-ltb _ _ near))
 
 pub slice_bounds-combine-end : goal.slice_bounds-combine-end
 slice_bounds-combine-end c =
@@ -100,22 +89,27 @@ slice_bounds-combine-end c =
 
 pub combine-requires : goal.combine-requires
 combine-requires c =
-    let few : k (goal.at.combine-requires c).Start ≤ 24 = omega (arith, c.requires.accepted.0.shape.some_parity, c.requires.accepted.0.shape.few_nodes) in
-    let size = ap length (part (goal.at.combine-requires c).Start (c.args.j * k (goal.at.combine-requires c).Start + k (goal.at.combine-requires c).Start - c.args.j * k (goal.at.combine-requires c).Start) (omega arith))
-    ∙ row_length (k (goal.at.combine-requires c).Start) c.args.nodes.now c.args.j (risen_length c.requires.accepted.1) in
+    let s = (goal.at.combine-requires c).Start in
+    let few : k s ≤ 24 = omega (arith, c.requires.accepted.0.shape) in
+    let size = ap length (part s (c.args.j * k s + k s - c.args.j * k s) (omega arith))
+    ∙ row_length (k s) c.args.nodes.now c.args.j (risen_length c.requires.accepted.1) in
     record {
       few = omega (arith, size, few);
       short = omega (arith, c.requires.positions_value.2, column_bound c.args.p c.requires.accepted.0);
-      reach = λ q h. omega (arith, column (goal.at.combine-requires c).Start q (omega (arith, size, h)), whole (goal.at.combine-requires c).Start, c.requires.positions_value.2);
+      reach = λ q h. omega (arith, column s q (omega (arith, size, h)), whole s, c.requires.positions_value.2);
     }
 
 pub returns : goal.returns
 unfolding base_column
 returns c =
+    let s = (goal.at.returns c).Start in
     let nodes = c.args.nodes.now in
-    let far : k (goal.at.returns c).Start ≤ position_in nodes c.args.j = omega (arith, position (goal.at.returns c).Start, c.if-at-k.false) in
+    let y = c.args.y.now in
+    let j = c.args.j in
+    let w : ℕ = width s in
+    let far : k s ≤ position_in nodes j = omega (arith, position s, c.if-at-k.false) in
     c.combine.ensures
-    ∙ ap₂ (λ (l : List ℕ) (m : ℕ). combination_of l c.args.y.now 0 (width (goal.at.returns c).Start) m)
-    (part (goal.at.returns c).Start (c.args.j * k (goal.at.returns c).Start + k (goal.at.returns c).Start - c.args.j * k (goal.at.returns c).Start) (omega arith)) c.requires.positions_value.2
-    ∙ sym (ap (λ b. cond b (strip_at c.args.y.now (position_in nodes c.args.j * width (goal.at.returns c).Start) (width (goal.at.returns c).Start))
-    (combination_of (weight_row (k (goal.at.returns c).Start) nodes c.args.j) c.args.y.now 0 (width (goal.at.returns c).Start) (width (goal.at.returns c).Start))) (le-ltb _ _ far))
+    ∙ ap₂ (λ (l : List ℕ) (m : ℕ). combination_of l y 0 w m)
+    (part s (j * k s + k s - j * k s) (omega arith)) c.requires.positions_value.2
+    ∙ sym (ap (λ b. cond b (strip_at y (position_in nodes j * w) w) (combination_of (weight_row (k s) nodes j) y 0 w w))
+    (le-ltb _ _ far))
