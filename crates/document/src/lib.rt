@@ -36,21 +36,21 @@ pub struct Profile {
 }
 
 // A node's number. A row's number is another type: staff read the two off different labels.
-#[derive(Clone, Copy)]
+#[derive(Clone, Copy, PartialEq, Eq)]
 pub struct Node(pub usize);
 
-#[derive(Clone, Copy)]
+#[derive(Clone, Copy, PartialEq, Eq)]
 pub struct Row(pub usize);
 
 // A place is written node first, then row.
-#[derive(Clone, Copy)]
+#[derive(Clone, Copy, PartialEq, Eq)]
 pub struct Place {
     pub node: Node,
     pub row: Row,
 }
 
 // A recording is a scenario and a run of it.
-#[derive(Clone, Copy)]
+#[derive(Clone, Copy, PartialEq, Eq)]
 pub struct Recording {
     pub scenario: u32,
     pub run: u16,
