@@ -10,45 +10,30 @@ use Rattle.lists.specs.Each.{Each}
 use Rattle.lists.proofs.Put.{wrote_front}
 use Rattle.document.specs.declared.Profile.{Profile}
 use Rattle.document.specs.declared.Node.{Node}
-use Rattle.document.specs.declared.Recording.{Recording}
 use Rattle.document.specs.Profile.{Accepted}
 use Rattle.document.specs.Places.{Within}
 use Rattle.document.specs.Plan.{planned, plan_bytes, max_places}
-use Rattle.document.specs.Bundle.{lost_content}
 use Rattle.document.proofs.Price.{few_places}
 use Rattle.document.proofs.PlanBytes.{bytes_length}
 use Rattle.document.proofs.Chosen.{plan_within}
-use Rattle.document.proofs.Bundle.{lost_length}
-use Rattle.message.specs.PlaceBytes.{places_from, Bounded}
+use Rattle.message.specs.PlaceBytes.{places_from}
 use Rattle.message.proofs.Places.{places_length, places_back}
 
-module _ (p : Profile) (acc : Accepted p) (f : Node) (h : f.0 < p.n) where
-  abbrev plan : ℕ
-  plan = length (planned p f)
+-- the front of a list
+pub taken : (m : ℕ) (l : List ℕ) → m ≤ length l → m ≡ length (take m l)
+taken m l h = sym (length-take-le m l h)
 
+module _ (p : Profile) (acc : Accepted p) (f : Node) (h : f.0 < p.n) where
   -- the plan's bytes fit
   pub bytes_bound : length (plan_bytes (planned p f)) ≤ 2 * max_places
   bytes_bound = omega (arith, bytes_length (planned p f), few_places p acc f h)
 
   module _ {d e : List ℕ} {end : ℕ} (w : Wrote d 0 (plan_bytes (planned p f)) end e) where
-    pub end_bound : length e ≡ 2 * max_places → end ≤ length e
-    end_bound size = omega (arith, (wrote_front w).0, bytes_bound)
-
-    pub part_length : length e ≡ 2 * max_places → end ≡ length (take end e)
-    part_length size = sym (length-take-le end e (end_bound size))
-
     pub places_are : places_from (take end e) ≡ planned p f
     places_are = ap places_from (wrote_front w).1 ∙ places_back (planned p f)
 
-    pub places_number : length (take end e) / 2 ≡ plan
+    pub places_number : length (take end e) / 2 ≡ length (planned p f)
     places_number = sym (places_length (take end e)) ∙ ap length places_are
 
     pub places_within : Each (Within p) (places_from (take end e))
     places_within = subst (Each (Within p)) (sym places_are) (plan_within p acc f h)
-
-    pub bundle_bounded : (r : Recording) {content : List ℕ} → content ≡ lost_content f r
-        → Bounded (length content) (length (take end e) / 2)
-    bundle_bounded r same = record {
-      short = omega (arith, ap length same, lost_length f r);
-      few = omega (arith, places_number, few_places p acc f h);
-    }

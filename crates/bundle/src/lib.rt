@@ -14,6 +14,7 @@ ghost use Rattle.document.specs.Rebuild.{first_strip};
 
 use document::{Node, Numbers, Profile, Recording, Refusal};
 use fields::OPENING;
+use message::Message;
 use plan::MAX_PLACES;
 
 // How many bytes the content of field 02 takes.
@@ -26,6 +27,7 @@ pub const LONGEST: usize = OPENING
     + MAX_PLACES * (OPENING + message::PLACED + Profile::MAX_STRIP);
 
 // The length of a bundle: the same for every lost node.
+#[tactic(auto, unfolding(document::specs::Message::strip_field_start))]
 fn bundle_length(p: Profile) -> usize
     requires { Accepted p }
     ensures { result ≡ message_length p lost_content_length (price_of p.n p.k p.a) }
@@ -41,15 +43,18 @@ pub fn first_strip(p: Profile) -> usize
 }
 
 // The content of field 02: the lost node and the recording.
+#[tactic(auto, unfolding(document::specs::Bundle::lost_content))]
 fn lost_content(f: Node, r: Recording) -> [u8; LOST]
     requires { f.0 < 256 }
     ensures { result ≡ lost_content f r }
 {
-    let id = r.bytes();
-    [f.0 as u8, id[0], id[1], id[2], id[3], id[4], id[5]]
+    let mut content = [f.0 as u8; LOST];
+    content[1..].copy_from_slice(&r.bytes());
+    content
 }
 
 // Writes the whole bundle.
+#[tactic(auto, using(crate::proofs::Planned::bytes_bound, crate::proofs::Planned::taken))]
 fn put_bundle(out: &mut [u8], p: Profile, f: Node, r: Recording, array: &[u8]) -> usize
     requires { Accepted p × (f.0 < p.n) × (length array.now ≡ p.n * p.a * p.s)
         × (length out.old ≡ bundle_length p f) }
@@ -58,17 +63,17 @@ fn put_bundle(out: &mut [u8], p: Profile, f: Node, r: Recording, array: &[u8]) -
     let content = lost_content(f, r);
     let mut places = [0u8; 2 * MAX_PLACES];
     let end = plan::put_plan(&mut places, p, f);
-    message::put_message(out, p, &content, r, &places[..end], array)
+    let message = Message {
+        profile: p,
+        content: &content,
+        recording: r,
+        places: &places[..end],
+    };
+    message.put(out, array)
 }
 
 // Writes a bundle with an accepted profile.
-fn write_with(
-    p: Profile,
-    f: Node,
-    r: Recording,
-    array: &[u8],
-    bundle: &mut [u8],
-) -> Result<usize, Refusal>
+fn write_with(p: Profile, f: Node, r: Recording, array: &[u8], bundle: &mut [u8]) -> Result<usize, Refusal>
     requires { Accepted p }
     ensures { (result, bundle.new) ≡ write_with p f r array.now bundle.old }
 {
@@ -101,6 +106,7 @@ pub fn write_bundle(
 }
 
 // What refuses a bundle that is read: the refusals 6 to 9.
+#[tactic(auto, using(crate::proofs::Planned::bytes_bound, crate::proofs::Planned::taken))]
 pub fn check(p: Profile, f: Node, r: Recording, bundle: &[u8]) -> Result<(), Refusal>
     requires { Accepted p × (f.0 < p.n) }
     ensures { result ≡ tried (bundle_tests p f r bundle.now) Err (Ok tt) }
@@ -108,5 +114,11 @@ pub fn check(p: Profile, f: Node, r: Recording, bundle: &[u8]) -> Result<(), Ref
     let content = lost_content(f, r);
     let mut places = [0u8; 2 * MAX_PLACES];
     let end = plan::put_plan(&mut places, p, f);
-    message::check(p, &content, r, &places[..end], bundle)
+    let message = Message {
+        profile: p,
+        content: &content,
+        recording: r,
+        places: &places[..end],
+    };
+    message.check(bundle)
 }

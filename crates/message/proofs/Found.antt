@@ -1,45 +1,35 @@
--- A search for the first number that fails a test: one step of it, and its two ends.
-use mathlib.Core.Path.{◌≡◌, sym, ◌∙◌}
-use mathlib.Core.Bool.{Bool, true, false, false≢true}
-use Prim.Native.Nat.{ℕ, ◌+◌, ◌≤◌, ◌<◌}
-use native.Mathlib.Nat.{not-suc-le-zero}
-use native.Mathlib.Decide.{ℕ_discrete}
+-- What a search over the numbers from 0 on finds: whether all pass a test, and the first that fails it.
+use mathlib.Core.Path.{◌≡◌, refl, sym, ap, ◌∙◌}
+use mathlib.Core.Bool.{Bool, true, false}
+use mathlib.Core.List.{List, [], ◌∷◌, ◌++◌}
+use Prim.Native.Nat.{ℕ, zero, suc, ◌+◌, ◌≤◌, ◌<◌, zero-le}
+use native.Mathlib.Numerals.{add-one}
 use native.Mathlib.Omega.{arith}
+use Rattle.std.proofs.Common.{Option, None, Some, MatchOption}
+use Rattle.std.specs.List.{range_with_len, list_all}
+use Rattle.std.proofs.Math.Bool.{and-true}
+use Rattle.std.proofs.lemmas.List.{map-id}
+use Rattle.std.proofs.lemmas.List.FromFn.{map-range_with_len_more}
+use Rattle.std.proofs.lemmas.List.Folds.{list_all-append}
 use Rattle.lists.specs.Listed.{all}
-use Rattle.document.proofs.Decides.{decides_false, decides_all}
 use Rattle.message.specs.Reader.{FirstNot}
 
-module _ (P : ℕ → Bool) where
-  -- each number below i passes
-  abbrev pub Below : ℕ → Type 0
-  Below i = (e : ℕ) → e < i → P e ≡ true
+module _ (T : ℕ → Bool) where
+  last : (n : ℕ) → range_with_len 0 (suc n) ≡ range_with_len 0 n ++ (n ∷ [])
+  last n =
+      ap (range_with_len 0) (sym (add-one n)) ∙ sym (map-id (range_with_len 0 (n + 1)))
+      ∙ map-range_with_len_more (λ x. x) 0 n n (omega arith)
+      ∙ ap (λ (l : List ℕ). l ++ (n ∷ [])) (map-id (range_with_len 0 n))
 
-  pub below_none : Below 0
-  below_none e l = absurd (not-suc-le-zero l)
+  pub all_listed : (n : ℕ) → list_all T (range_with_len 0 n) ≡ all n T
+  unfolding all
+  all_listed zero = refl
+  all_listed (suc n) =
+      ap (list_all T) (last n) ∙ list_all-append T (range_with_len 0 n) (n ∷ []) ∙ rw (all_listed n, and-true)
 
-  pub below_next : (i : ℕ) → Below i → P i ≡ true → Below (i + 1)
-  below_next i below h e l = go (ℕ_discrete e i)
-    where
-      go : Dec (e ≡ i) → P e ≡ true
-      go (yes d) = rw d h
-      go (no d) = below e (omega arith)
-
-  pub found : (n i : ℕ) → i < n → Below i → P i ≡ false → FirstNot P n i
-  found n i l below h = record { within = omega arith; before = below; here = λ k. h }
-
-  pub not_found : (n i : ℕ) → n ≤ i → Below i → FirstNot P n n
-  not_found n i l below = record {
-    within = omega arith;
-    before = λ e h. below e (omega arith);
-    here = λ k. absurd (omega arith);
-  }
-
-  -- the same as a test of all numbers below n
-  pub all_true : (n i : ℕ) → n ≤ i → Below i → all n P ≡ true
-  all_true n i l below =
-      (decides_all {Q = λ e. P e ≡ true} n P (λ e. ((λ d. d), λ d. d))).1 (λ e h. below e (omega arith))
-
-  pub all_false : (n i : ℕ) → i < n → P i ≡ false → all n P ≡ false
-  all_false n i l h =
-      decides_false (all n P) (decides_all {Q = λ e. P e ≡ true} n P (λ e. ((λ d. d), λ d. d)))
-      (λ every. false≢true (sym h ∙ every i l))
+  pub first_not : (n : ℕ) (found : Option ℕ)
+      → MatchOption found ((k : ℕ) → 0 ≤ k → k < n → T k ≡ true)
+      (λ i. (0 ≤ i) × (i < n) × (T i ≡ false) × ((k : ℕ) → 0 ≤ k → k < i → T k ≡ true))
+      → FirstNot T n found
+  first_not n None h = λ e l. h e zero-le l
+  first_not n (Some i) h = (h.1, h.2, λ e l. h.3 e zero-le l)

@@ -1,5 +1,4 @@
 pub mod Places
 pub mod Fit
 pub mod Found
-pub mod Compared
 pub mod Answers

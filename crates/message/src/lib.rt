@@ -3,28 +3,38 @@
 // bytes a place, node first.
 #![tactic(auto)]
 
-ghost use Rattle.std.specs.Prelude.{◌≡◌, ◌++◌, ◌+◌, ◌*◌, ◌/◌, ◌<◌, ◌≤◌, length};
+ghost use Rattle.std.specs.Prelude.{◌≡◌, ◌++◌, ◌+◌, ◌*◌, ◌/◌, ◌<◌, ◌≤◌, length, get_or};
 ghost use Rattle.lists.specs.Put.{Wrote};
 ghost use Rattle.lists.specs.Each.{Each};
 ghost use Rattle.fields.specs.Fields.{field_of};
 ghost use Rattle.document.specs.Profile.{max_strip, Accepted};
-ghost use Rattle.document.specs.Places.{Within, place_at};
+ghost use Rattle.document.specs.Places.{place, Within, place_at};
 ghost use Rattle.document.specs.Encoding.{strip_of};
-ghost use Rattle.document.specs.Message.{recording_bytes, recording_length, profile_content};
-ghost use Rattle.document.specs.Message.{strip_content, strip_field_length, strip_offset, head_length, message_length};
-ghost use Rattle.document.specs.Message.{strip_fields, message_of, strip_field_start};
+ghost use Rattle.document.specs.Message.{profile_content, strip_content, strip_field_length, strip_offset};
+ghost use Rattle.document.specs.Message.{head_length, message_length, strip_fields, message_of, strip_field_start};
 ghost use Rattle.message.specs.PlaceBytes.{places_from, Bounded};
 
 mod reader;
 
 use document::{Node, Place, Profile, Recording, Row};
 use fields::OPENING;
-pub use reader::check;
 
 // How many bytes the content of a field 03 takes before its strip.
 pub const PLACED: usize = 2 + Recording::BYTES;
 
+// What a message has beside its strips: the profile, the content of field 02, the recording and the places.
+#[derive(Clone, Copy)]
+pub struct Message<'a> {
+    pub profile: Profile,
+    pub content: &'a [u8],
+    pub recording: Recording,
+    pub places: &'a [u8],
+    ghost accepted: { Accepted profile },
+    ghost bounded: { Bounded (length content.now) (length places.now / 2) },
+}
+
 // The length of fields 01 and 02, where the content of field 02 has m bytes.
+#[tactic(auto, using(document::proofs::Message::profile_short))]
 fn head_length(p: Profile, m: usize) -> usize
     requires { m < 65536 }
     ensures { result ≡ head_length p m }
@@ -41,6 +51,7 @@ pub fn strip_stride(p: Profile) -> usize
 }
 
 // Where the field 03 of strip i starts; with the number of strips for i, the length of the message.
+#[tactic(auto, unfolding(document::specs::Message::strip_field_start))]
 pub fn strip_field(p: Profile, m: usize, i: usize) -> usize
     requires { Accepted p × Bounded m i }
     ensures { result ≡ strip_field_start p m i }
@@ -49,6 +60,7 @@ pub fn strip_field(p: Profile, m: usize, i: usize) -> usize
 }
 
 // Where the first strip starts.
+#[tactic(auto, using(document::proofs::Message::profile_short))]
 pub fn first_strip(p: Profile, m: usize) -> usize
     requires { m < 65536 }
     ensures { result ≡ head_length p m + strip_offset }
@@ -56,113 +68,111 @@ pub fn first_strip(p: Profile, m: usize) -> usize
     head_length(p, m) + OPENING + PLACED
 }
 
-// Place i of a list of places.
-fn place_at(places: &[u8], i: usize) -> Place
-    requires { i < length places.now / 2 }
-    ensures { result ≡ place_at (places_from places.now) i }
+// The place that two bytes name, node first.
+fn place_in(b: &[u8], at: usize) -> Place
+    requires { at + 2 ≤ length b.now }
+    ensures { result ≡ place (get_or b.now at 0) (get_or b.now (at + 1) 0) }
 {
     Place {
-        node: Node(places[2 * i] as usize),
-        row: Row(places[2 * i + 1] as usize),
+        node: Node(usize::from(b[at])),
+        row: Row(usize::from(b[at + 1])),
     }
 }
 
-// Writes a recording: its scenario and its run.
-fn put_recording(out: &mut [u8], at: usize, r: Recording) -> usize
-    requires { at + recording_length ≤ length out.old }
-    ensures { Wrote out.old at (recording_bytes r) result out.new }
-{
-    let bytes = r.bytes();
-    lists::put_bytes(out, at, &bytes)
-}
-
-// Writes fields 01 and 02.
-fn put_head(out: &mut [u8], p: Profile, content: &[u8]) -> usize
-    requires { Accepted p × (head_length p (length content.now) ≤ length out.old) }
-    ensures { Wrote out.old 0
-        (field_of 1 (profile_content p) ++ field_of 2 content.now) result out.new }
-{
-    let after_profile = profile_field::put(out, 0, p);
-    let after_opening = fields::put_opening(out, after_profile, 2, content.len());
-    lists::put_bytes(out, after_opening, content)
-}
-
-// Writes a field 03: a place, the recording and a strip.
-fn put_strip(out: &mut [u8], at: usize, r: Recording, q: Place, strip: &[u8]) -> usize
-    requires { (q.node.0 < 256) × (q.row.0 < 256) × (length strip.now ≤ max_strip)
-        × (at + strip_field_length (length strip.now) ≤ length out.old) }
-    ensures { Wrote out.old at
-        (field_of 3 (strip_content q r strip.now)) result out.new }
-{
-    let after_opening = fields::put_opening(out, at, 3, PLACED + strip.len());
-    let numbers = [q.node.0 as u8, q.row.0 as u8];
-    let after_place = lists::put_bytes(out, after_opening, &numbers);
-    let after_recording = put_recording(out, after_place, r);
-    lists::put_bytes(out, after_recording, strip)
-}
-
-// The same, with the strip that the array has at the place.
-fn put_strip_of(
-    out: &mut [u8],
-    at: usize,
-    p: Profile,
-    r: Recording,
-    q: Place,
-    array: &[u8],
-) -> usize
-    requires { Accepted p × Within p q × (length array.now ≡ p.n * p.a * p.s)
-        × (at + strip_field_length p.s ≤ length out.old) }
-    ensures { Wrote out.old at
-        (field_of 3 (strip_content q r (strip_of p array.now q))) result out.new }
-{
-    let from = p.start(q);
-    let end = from + p.s;
-    put_strip(out, at, r, q, &array[from..end])
-}
-
-// Writes a field 03 for each of the places, with the strips that the array has there.
-fn put_strips(
-    out: &mut [u8],
-    at: usize,
-    p: Profile,
-    r: Recording,
-    places: &[u8],
-    array: &[u8],
-) -> usize
-    requires { Accepted p × Each (Within p) (places_from places.now)
-        × (length array.now ≡ p.n * p.a * p.s)
-        × (at + length places.now / 2 * strip_field_length p.s ≤ length out.old) }
-    ensures { Wrote out.old at
-        (strip_fields r (strip_of p array.now) (places_from places.now)) result out.new }
-{
-    let count = places.len() / 2;
-    let mut next = at;
-    let mut i: usize = 0;
-    while i < count {
-        let q = place_at(places, i);
-        next = put_strip_of(out, next, p, r, q, array);
-        i += 1;
+impl<'a> Message<'a> {
+    // The number of places.
+    fn count(&self) -> usize
+        ensures { result ≡ length self.now.places.now / 2 }
+    {
+        self.places.len() / 2
     }
-    next
-}
 
-// Writes the whole message, with the strips that the array has at the places.
-pub fn put_message(
-    out: &mut [u8],
-    p: Profile,
-    content: &[u8],
-    r: Recording,
-    places: &[u8],
-    array: &[u8],
-) -> usize
-    requires accepted { Accepted p × Each (Within p) (places_from places.now)
-        × (length array.now ≡ p.n * p.a * p.s)
-        × (length out.old ≡ message_length p (length content.now) (length places.now / 2)) }
-    requires bounded { Bounded (length content.now) (length places.now / 2) }
-    ensures { Wrote out.old 0
-        (message_of p content.now r (strip_of p array.now) (places_from places.now))
-        result out.new }
-{
-    let after_head = put_head(out, p, content);
-    put_strips(out, after_head, p, r, places, array)
+    // Place i.
+    #[tactic(auto, using(crate::proofs::Places::places_at_lem))]
+    fn place(&self, i: usize) -> Place
+        requires { i < length self.now.places.now / 2 }
+        ensures { result ≡ place_at (places_from self.now.places.now) i }
+    {
+        place_in(self.places, 2 * i)
+    }
+
+    // Where the field 03 of strip i starts; with the number of strips for i, the length of the message.
+    fn field(&self, i: usize) -> usize
+        requires { i ≤ length self.now.places.now / 2 }
+        ensures { result ≡ strip_field_start self.now.profile (length self.now.content.now) i }
+    {
+        strip_field(self.profile, self.content.len(), i)
+    }
+
+    // Writes fields 01 and 02.
+    #[tactic(auto, using(crate::proofs::Fit::opening_size, fields::proofs::Fields::field_length))]
+    fn put_head(&self, out: &mut [u8]) -> usize
+        requires { head_length self.now.profile (length self.now.content.now) ≤ length out.old }
+        ensures { Wrote out.old 0
+            (field_of 1 (profile_content self.now.profile) ++ field_of 2 self.now.content.now) result out.new }
+    {
+        let after_profile = profile_field::put(out, 0, self.profile);
+        let after_opening = fields::put_opening(out, after_profile, 2, self.content.len());
+        lists::put_bytes(out, after_opening, self.content)
+    }
+
+    // Writes a field 03: a place, the recording and a strip.
+    #[tactic(auto, using(crate::proofs::Fit::opening_size, document::proofs::Message::recording_length_lem))]
+    fn put_strip(&self, out: &mut [u8], at: usize, q: Place, strip: &[u8]) -> usize
+        requires node { q.node.0 < 256 }
+        requires row { q.row.0 < 256 }
+        requires short { length strip.now ≤ max_strip }
+        requires room { at + strip_field_length (length strip.now) ≤ length out.old }
+        ensures { Wrote out.old at
+            (field_of 3 (strip_content q self.now.recording strip.now)) result out.new }
+    {
+        let after_opening = fields::put_opening(out, at, 3, PLACED + strip.len());
+        let after_place = lists::put_bytes(out, after_opening, &[q.node.0 as u8, q.row.0 as u8]);
+        let after_recording = lists::put_bytes(out, after_place, &self.recording.bytes());
+        lists::put_bytes(out, after_recording, strip)
+    }
+
+    // The same, with the strip that the array has at the place.
+    #[tactic(auto, using(crate::proofs::Fit::strip_fits))]
+    fn put_strip_of(&self, out: &mut [u8], at: usize, q: Place, array: &[u8]) -> usize
+        requires within { Within self.now.profile q }
+        requires array { length array.now ≡ self.now.profile.n * self.now.profile.a * self.now.profile.s }
+        requires room { at + strip_field_length self.now.profile.s ≤ length out.old }
+        ensures { Wrote out.old at
+            (field_of 3 (strip_content q self.now.recording (strip_of self.now.profile array.now q))) result out.new }
+    {
+        let from = self.profile.start(q);
+        let end = from + self.profile.s;
+        self.put_strip(out, at, q, &array[from..end])
+    }
+
+    // Writes a field 03 for each of the places, with the strips that the array has there.
+    fn put_strips(&self, out: &mut [u8], at: usize, array: &[u8]) -> usize
+        requires within { Each (Within self.now.profile) (places_from self.now.places.now) }
+        requires array { length array.now ≡ self.now.profile.n * self.now.profile.a * self.now.profile.s }
+        requires room { at + length self.now.places.now / 2 * strip_field_length self.now.profile.s ≤ length out.old }
+        ensures { Wrote out.old at
+            (strip_fields self.now.recording (strip_of self.now.profile array.now) (places_from self.now.places.now))
+            result out.new }
+    {
+        let mut next = at;
+        for i in 0..self.count() {
+            next = self.put_strip_of(out, next, self.place(i), array);
+        }
+        next
+    }
+
+    // Writes the whole message, with the strips that the array has at the places.
+    pub fn put(&self, out: &mut [u8], array: &[u8]) -> usize
+        requires within { Each (Within self.now.profile) (places_from self.now.places.now) }
+        requires array { length array.now ≡ self.now.profile.n * self.now.profile.a * self.now.profile.s }
+        requires room { length out.old
+            ≡ message_length self.now.profile (length self.now.content.now) (length self.now.places.now / 2) }
+        ensures { Wrote out.old 0
+            (message_of self.now.profile self.now.content.now self.now.recording (strip_of self.now.profile array.now)
+            (places_from self.now.places.now)) result out.new }
+    {
+        let after_head = self.put_head(out);
+        self.put_strips(out, after_head, array)
+    }
 }

@@ -1,152 +1,131 @@
-// A message compared with what is wanted: the refusals 6 to 9. The tests of one field 03 take the offset where it
-// starts.
+// A message compared with what is wanted: the refusals 6 to 9.
 ghost use Rattle.std.specs.Prelude.{◌≡◌, ◌+◌, ◌/◌, ◌<◌, ◌≤◌, length, Ok, Err};
 ghost use Rattle.lists.specs.Listed.{all};
-ghost use Rattle.fields.specs.Fields.{opening_length};
 ghost use Rattle.document.specs.Refusals.{tried};
-ghost use Rattle.document.specs.Profile.{Accepted};
-ghost use Rattle.document.specs.Message;
-ghost use Rattle.document.specs.Message.{strip_offset, head_length, message_tests};
-ghost use Rattle.message.specs.PlaceBytes.{places_from, Bounded};
-ghost use Rattle.message.specs.Reader.{FieldsFit, opened_in, placed_in, fresh_in, FirstNot};
+ghost use Rattle.document.specs.Message.{head_length, formed, headed, message_tests};
+ghost use Rattle.message.specs.PlaceBytes.{places_from};
+ghost use Rattle.message.specs.Reader.{count_of, field_start, opened_in, placed_in, fresh_in, FirstNot};
 
-use crate::{PLACED, place_at, strip_field};
-use document::{Place, Profile, Recording, Refusal};
+use crate::{Message, PLACED, place_in};
+use document::{Refusal};
 use fields::OPENING;
 
-// Whether the field 03 that starts at `at` has its tag and its length.
-fn opened(p: Profile, b: &[u8], at: usize) -> bool
-    requires { Accepted p × (at + opening_length ≤ length b.now) }
-    ensures { result ≡ Message.opened p.s b.now at }
-{
-    fields::opens(b, at, 3, PLACED + p.s)
+// Bytes as long as the wanted message.
+#[derive(Clone, Copy)]
+struct Received<'a> {
+    wanted: Message<'a>,
+    b: &'a [u8],
+    ghost room: { field_start wanted (count_of wanted) ≤ length b.now },
 }
 
-// Whether it has the place q.
-fn placed(q: Place, b: &[u8], at: usize) -> bool
-    requires { at + opening_length + 2 ≤ length b.now }
-    ensures { result ≡ Message.placed q b.now at }
-{
-    let from = at + OPENING;
-    if b[from] as usize != q.node.0 {
-        return false;
+impl<'a> Received<'a> {
+    // Whether the field 03 of strip i has its tag and its length.
+    #[tactic(auto, using(crate::proofs::Fit::field_room), unfolding(document::specs::Message::opened))]
+    fn opened(&self, i: usize) -> bool
+        requires { i < count_of self.now.wanted }
+        ensures { result ≡ opened_in self.now.wanted self.now.b.now i }
+    {
+        fields::opens(
+            self.b,
+            self.wanted.field(i),
+            3,
+            PLACED + self.wanted.profile.s,
+        )
     }
-    b[from + 1] as usize == q.row.0
+
+    // Whether it has its place.
+    #[tactic(auto, using(crate::proofs::Fit::field_room, crate::proofs::Fit::placed_is))]
+    fn placed(&self, i: usize) -> bool
+        requires { i < count_of self.now.wanted }
+        ensures { result ≡ placed_in self.now.wanted self.now.b.now i }
+    {
+        place_in(self.b, self.wanted.field(i) + OPENING) == self.wanted.place(i)
+    }
+
+    // Whether it is of the wanted recording.
+    #[tactic(auto, using(crate::proofs::Fit::field_room, crate::proofs::Fit::fresh_is))]
+    fn fresh(&self, i: usize) -> bool
+        requires { i < count_of self.now.wanted }
+        ensures { result ≡ fresh_in self.now.wanted self.now.b.now i }
+    {
+        let want = self.wanted.recording.bytes();
+        lists::same_at(self.b, self.wanted.field(i) + OPENING + 2, &want)
+    }
+
+    // Whether all fields 03 have their tag and length.
+    fn all_opened(&self) -> bool
+        ensures { result ≡ all (count_of self.now.wanted) (opened_in self.now.wanted self.now.b.now) }
+    {
+        (0..self.wanted.count()).all(|i| self.opened(i))
+    }
+
+    // The first strip that has another place than the list.
+    fn first_misplaced(&self) -> Option<usize>
+        ensures { FirstNot (placed_in self.now.wanted self.now.b.now) (count_of self.now.wanted) result }
+    {
+        (0..self.wanted.count()).find(|&i| !self.placed(i))
+    }
+
+    // The first strip of another recording.
+    fn first_stale(&self) -> Option<usize>
+        ensures { FirstNot (fresh_in self.now.wanted self.now.b.now) (count_of self.now.wanted) result }
+    {
+        (0..self.wanted.count()).find(|&i| !self.fresh(i))
+    }
 }
 
-// Whether it is of the wanted recording.
-fn fresh(r: Recording, b: &[u8], at: usize) -> bool
-    requires { at + strip_offset ≤ length b.now }
-    ensures { result ≡ Message.fresh r b.now at }
-{
-    let want = r.bytes();
-    lists::same_at(b, at + OPENING + 2, &want)
-}
+impl<'a> Message<'a> {
+    // Whether the total length, the tags and the field lengths are the wanted ones.
+    #[tactic(auto, unfolding(document::specs::Message::formed, document::specs::Message::strip_field_start))]
+    fn formed(&self, b: &[u8]) -> bool
+        ensures { result
+            ≡ formed self.now.profile (length self.now.content.now) (length self.now.places.now / 2) b.now }
+    {
+        b.len() == self.field(self.count())
+            && profile_field::opened(self.profile, b, 0)
+            && fields::opens(
+                b,
+                profile_field::field_length(self.profile),
+                2,
+                self.content.len(),
+            )
+            && Received { wanted: *self, b }.all_opened()
+    }
 
-// Whether all fields 03 have their tag and length.
-fn all_opened(p: Profile, m: usize, b: &[u8], count: usize) -> bool
-    requires { FieldsFit p m count b.now }
-    ensures { result ≡ all count (opened_in p m b.now) }
-{
-    let mut i: usize = 0;
-    while i < count {
-        if !opened(p, b, strip_field(p, m, i)) {
-            return false;
+    // Whether the contents of fields 01 and 02 are the wanted ones.
+    #[tactic(auto, unfolding(document::specs::Message::headed))]
+    fn headed(&self, b: &[u8]) -> bool
+        requires { head_length self.now.profile (length self.now.content.now) ≤ length b.now }
+        ensures { result ≡ headed self.now.profile self.now.content.now b.now }
+    {
+        profile_field::same_content(self.profile, b, 0)
+            && lists::same_at(
+                b,
+                profile_field::field_length(self.profile) + OPENING,
+                self.content,
+            )
+    }
+
+    // What refuses a message that is read: 6, 7, then 8 over all strips, then 9 over all strips.
+    pub fn check(&self, b: &[u8]) -> Result<(), Refusal>
+        ensures { result
+            ≡ tried
+            (message_tests self.now.profile self.now.content.now self.now.recording (places_from self.now.places.now)
+            b.now) Err (Ok tt) }
+    {
+        if !self.formed(b) {
+            return Err(Refusal::Form);
         }
-        i += 1;
-    }
-    true
-}
-
-// Whether the total length, the tags and the field lengths are the wanted ones, with m bytes of content in field 02.
-fn formed(p: Profile, m: usize, count: usize, b: &[u8]) -> bool
-    requires { Accepted p × Bounded m count }
-    ensures { result ≡ Message.formed p m count b.now }
-{
-    if b.len() != strip_field(p, m, count) {
-        return false;
-    }
-    if !profile_field::opened(p, b, 0) {
-        return false;
-    }
-    if !fields::opens(b, profile_field::field_length(p), 2, m) {
-        return false;
-    }
-    all_opened(p, m, b, count)
-}
-
-// Whether the contents of fields 01 and 02 are the wanted ones.
-fn headed(p: Profile, content: &[u8], b: &[u8]) -> bool
-    requires { Accepted p × (head_length p (length content.now) ≤ length b.now) }
-    ensures { result ≡ Message.headed p content.now b.now }
-{
-    if !profile_field::same_content(p, b, 0) {
-        return false;
-    }
-    lists::same_at(b, profile_field::field_length(p) + OPENING, content)
-}
-
-// The first strip that has another place than the list, or the number of strips.
-fn first_misplaced(p: Profile, m: usize, places: &[u8], b: &[u8]) -> usize
-    requires { FieldsFit p m (length places.now / 2) b.now }
-    ensures { FirstNot (placed_in p m (places_from places.now) b.now)
-        (length places.now / 2) result }
-{
-    let count = places.len() / 2;
-    let mut i: usize = 0;
-    while i < count {
-        let q = place_at(places, i);
-        if !placed(q, b, strip_field(p, m, i)) {
-            return i;
+        if !self.headed(b) {
+            return Err(Refusal::Head);
         }
-        i += 1;
-    }
-    count
-}
-
-// The first strip of another recording, or the number of strips.
-fn first_stale(p: Profile, m: usize, r: Recording, b: &[u8], count: usize) -> usize
-    requires { FieldsFit p m count b.now }
-    ensures { FirstNot (fresh_in p m r b.now) count result }
-{
-    let mut i: usize = 0;
-    while i < count {
-        if !fresh(r, b, strip_field(p, m, i)) {
-            return i;
+        let received = Received { wanted: *self, b };
+        if let Some(i) = received.first_misplaced() {
+            return Err(Refusal::Misplaced(i));
         }
-        i += 1;
+        if let Some(i) = received.first_stale() {
+            return Err(Refusal::Stale(i));
+        }
+        Ok(())
     }
-    count
-}
-
-// What refuses a message that is read: 6, 7, then 8 over all strips, then 9 over all strips.
-pub fn check(
-    p: Profile,
-    content: &[u8],
-    r: Recording,
-    places: &[u8],
-    b: &[u8],
-) -> Result<(), Refusal>
-    requires { Accepted p × Bounded (length content.now) (length places.now / 2) }
-    ensures { result
-        ≡ tried (message_tests p content.now r (places_from places.now) b.now)
-        Err (Ok tt) }
-{
-    let m = content.len();
-    let count = places.len() / 2;
-    if !formed(p, m, count, b) {
-        return Err(Refusal::Form);
-    }
-    if !headed(p, content, b) {
-        return Err(Refusal::Head);
-    }
-    let misplaced = first_misplaced(p, m, places, b);
-    if misplaced < count {
-        return Err(Refusal::Misplaced(misplaced));
-    }
-    let stale = first_stale(p, m, r, b, count);
-    if stale < count {
-        return Err(Refusal::Stale(stale));
-    }
-    Ok(())
 }
