@@ -174,7 +174,7 @@ fn system_line(p: Profile, nodes: &[u8], table: &[u8], halves: &[u8], e: usize) 
     for (f, half) in halves.iter().enumerate() {
         c[f] = partner_coefficient(p, nodes, table, r, *half as usize);
     }
-    c[e] = c[e] ^ 1;
+    c[e] ^= 1;
     c
 }
 

@@ -2,7 +2,7 @@
 use mathlib.Core.Path.{◌≡◌, sym, subst, ◌∙◌}
 use Prim.Native.Nat.{ℕ, ◌*◌}
 use native.Mathlib.Omega.{arith}
-use lib.ListN.{length, take}
+use lib.ListN.{take}
 use lib.Seq.{take_all, length-take-le}
 use Rattle.lists.proofs.Parts.{parts, none_parts, next_part}
 use Rattle.ksets.proofs.Ranked.{risen_length}
