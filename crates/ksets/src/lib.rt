@@ -2,12 +2,12 @@
 // next set.
 #![tactic(auto)]
 
-ghost use Rattle.std.specs.Prelude.{◌≡◌, false, ℕ, ◌+◌, ◌-◌, ◌<◌, ◌≤◌, length, get_or, drop};
+ghost use Rattle.std.specs.Prelude.{◌≡◌, true, ℕ, ◌+◌, ◌-◌, ◌<◌, ◌≤◌, length, get_or, MatchOption};
 ghost use Rattle.lists.specs.Listed.{listed};
-ghost use Rattle.lists.specs.Put.{put};
 ghost use Rattle.ksets.specs.Sets.{max_nodes, sets, set_at, rank_of, full, run, next_of};
-ghost use Rattle.ksets.specs.Workers.{next_at, Writes};
-ghost use Rattle.ksets.specs.Workers.{Shared, Ranks, Raised, Steps};
+ghost use Rattle.ksets.specs.Workers.{next_at, Shared, Raised, Steps};
+
+use std::array;
 
 // The most nodes that sets are taken of.
 pub const MAX_NODES: usize = 24;
@@ -20,136 +20,100 @@ fn next_row(row: [usize; ENTRIES]) -> [usize; ENTRIES]
     requires { (k : ℕ) → get_or row k 0 ≤ 4194304 }
     ensures { result ≡ listed (max_nodes + 1) (next_at row) }
 {
-    let mut next = row;
-    next[0] = 1;
-    let mut k = 1;
-    while k < ENTRIES {
-        next[k] = row[k] + row[k - 1];
-        k += 1;
-    }
-    next
+    array::from_fn(|k| if k == 0 { 1 } else { row[k] + row[k - 1] })
 }
 
-// Pascal's row n, from the row above it.
+// Pascal's row n: the first one, and then each from the row above it.
+#[tactic(auto, using(crate::proofs::Pascal::row_first, crate::proofs::Pascal::row_fits, crate::proofs::Pascal::row_more))]
 fn row_of(n: usize) -> [usize; ENTRIES]
     requires { n ≤ max_nodes }
     ensures { result ≡ listed (max_nodes + 1) (sets n) }
 {
-    if n == 0 {
-        let mut first: [usize; ENTRIES] = [0; ENTRIES];
-        first[0] = 1;
-        return first;
+    let mut row = [0; ENTRIES];
+    row[0] = 1;
+    for _ in 0..n {
+        row = next_row(row);
     }
-    let above = row_of(n - 1);
-    next_row(above)
+    row
 }
 
 // The number of sets of k of n nodes.
+#[tactic(auto, using(crate::proofs::Pascal::row_at))]
 pub fn count(n: usize, k: usize) -> usize
     requires { n ≤ max_nodes }
     ensures { result ≡ sets n k }
 {
-    if MAX_NODES < k {
-        return 0;
-    }
-    let row = row_of(n);
-    row[k]
+    row_of(n).get(k).copied().unwrap_or(0)
 }
 
 // Of the `total` sets of k of n nodes, those with the first node: each node is in k of n of them.
+#[tactic(auto, using(crate::proofs::Pascal::share_fits, crate::proofs::Pascal::share_is))]
 fn share(total: usize, n: usize, k: usize) -> usize
     requires { Shared total n k }
-    ensures { result ≡ sets (n - 1) (k - 1) }
+    ensures { result + sets (n - 1) k ≡ sets n k }
 {
     total * k / n
 }
 
-// Writes the set's nodes, k of the n nodes from b on, into `set` from `at` on; `total` is the number of these sets.
-fn write_set(set: &mut [u8], at: usize, b: usize, n: usize, k: usize, pos: usize, total: usize)
-    requires { Writes set.old at b n k total }
-    ensures { set.new ≡ put set.old at (set_at b n k pos) }
-{
-    if k == 0 {
-        return;
-    }
-    if n == 0 {
-        return;
-    }
-    let with = share(total, n, k);
-    if pos < with {
-        set[at] = b as u8;
-        write_set(set, at + 1, b + 1, n - 1, k - 1, pos, with);
-    } else {
-        write_set(set, at, b + 1, n - 1, k, pos - with, total - with);
-    }
-}
-
-// Writes the set at a position.
-pub fn unrank(set: &mut [u8], n: usize, pos: usize)
+// Writes the set at a position: node by node, those with the node come before those without it.
+pub fn unrank(set: &mut [u8], n: usize, mut pos: usize)
     requires { (n ≤ max_nodes) × (pos < sets n (length set.old)) }
     ensures { set.new ≡ set_at 0 n (length set.old) pos }
 {
-    let k = set.len();
-    let total = count(n, k);
-    write_set(set, 0, 0, n, k, pos, total);
+    let mut total = count(n, set.len());
+    let mut at = 0;
+    for b in 0..n {
+        let with = share(total, n - b, set.len() - at);
+        if pos < with {
+            set[at] = b as u8;
+            at += 1;
+            total = with;
+        } else {
+            pos -= with;
+            total -= with;
+        }
+    }
 }
 
-// The position of the nodes from `at` on among the `total` sets of as many of the n nodes from b on.
-fn rank_from(set: &[u8], at: usize, b: usize, n: usize, k: usize, total: usize) -> usize
-    requires { Ranks set.now at b n k total }
-    ensures { result ≡ rank_of b n (drop at set.now) }
-{
-    if k == 0 {
-        return 0;
-    }
-    if n == 0 {
-        return 0;
-    }
-    let with = share(total, n, k);
-    if set[at] as usize == b {
-        return rank_from(set, at + 1, b + 1, n - 1, k - 1, with);
-    }
-    let past = rank_from(set, at, b + 1, n - 1, k, total - with);
-    with + past
-}
-
-// The position of a set.
+// The position of a set: node by node, those with the node are passed over where the set is without it.
 pub fn rank(set: &[u8], n: usize) -> usize
     requires { n ≤ max_nodes }
     ensures { result ≡ rank_of 0 n set.now }
 {
-    let k = set.len();
-    let total = count(n, k);
-    rank_from(set, 0, 0, n, k, total)
-}
-
-// The last entry that can be raised.
-fn raised(set: &[u8], n: usize) -> usize
-    requires { full n set.now ≡ false }
-    ensures { Raised n set.now result }
-{
-    let mut i = set.len();
-    while 0 < i {
-        let x = set[i - 1] as usize;
-        let after = set.len() - i;
-        if x + after + 1 < n {
-            return i - 1;
+    let mut total = count(n, set.len());
+    let mut rest = set;
+    let mut pos = 0;
+    for b in 0..n {
+        let with = share(total, n - b, rest.len());
+        match rest {
+            [x, more @ ..] if usize::from(*x) == b => {
+                rest = more;
+                total = with;
+            }
+            _ => {
+                pos += with;
+                total -= with;
+            }
         }
-        i -= 1;
     }
-    0
+    pos
 }
 
-// Writes v, v + 1, .. from `at` on, to the end.
-fn write_run(set: &mut [u8], at: usize, v: usize)
-    requires { (at ≤ length set.old) × (v + (length set.old - at) ≤ 256) }
-    ensures { set.new ≡ put set.old at (run v (length set.old - at)) }
+// The last entry that can be raised, with those after it, and stay below n; none if none can.
+fn raised(set: &[u8], n: usize) -> Option<usize>
+    ensures { MatchOption result (full n set.now ≡ true) (Raised n set.now) }
 {
-    let m = set.len() - at;
-    let mut i = 0;
-    while i < m {
-        set[at + i] = (v + i) as u8;
-        i += 1;
+    (0..set.len()).rfind(|&i| usize::from(set[i]) + set.len() - i < n)
+}
+
+// Writes v, v + 1, .. over the whole.
+#[tactic(auto, using(crate::proofs::Raising::run_is))]
+fn write_run(set: &mut [u8], v: u8)
+    requires { v + length set.old ≤ 255 }
+    ensures { set.new ≡ run v (length set.old) }
+{
+    for (i, x) in set.iter_mut().enumerate() {
+        *x = v + i as u8;
     }
 }
 
@@ -158,7 +122,8 @@ pub fn step(set: &mut [u8], n: usize)
     requires { Steps n set.old }
     ensures { set.new ≡ next_of n set.old }
 {
-    let at = raised(set, n);
-    let x = set[at] as usize;
-    write_run(set, at, x + 1);
+    if let Some(at) = raised(set, n) {
+        let v = set[at] + 1;
+        write_run(&mut set[at..], v);
+    }
 }

@@ -1,4 +1,5 @@
 pub mod Listed
+pub mod Made
 pub mod Written
 pub mod Patched
 pub mod Lent

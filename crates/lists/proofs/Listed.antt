@@ -46,6 +46,13 @@ module _ {X : Type 0} where
   listed_take (suc m) (suc n) f h =
       ap (λ (l : List X). f 0 ∷ l) (listed_take m n (λ e. f (suc e)) (le_of_suc-le-suc h))
 
+  -- a list of n entries, each by f, is listed
+  pub listed_is : (n : ℕ) (f : ℕ → X) (d : X) (xs : List X) → length xs ≡ n → ((e : ℕ) → e < n → get_or xs e d ≡ f e)
+      → xs ≡ listed n f
+  listed_is n f d xs size h =
+      ext_get_or d xs (listed n f) (size ∙ sym (listed_length n f))
+      (λ e l. let below : e < n = rw size at l in h e below ∙ sym (listed_at n f e d below))
+
   -- a list is its entries, listed
   pub listed_get_or : (d : X) (xs : List X) → listed (length xs) (λ e. get_or xs e d) ≡ xs
   listed_get_or d xs =
