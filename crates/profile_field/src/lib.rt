@@ -23,6 +23,18 @@ fn content_length(p: Profile) -> usize
     }
 }
 
+// What the field opens with, its tag and its length: 'the three bytes 01 00 06', in edition 2 01 00 07. Document 01 asks
+// for fixed byte strings here.
+#[tactic(auto, using(document::proofs::Message::profile_length), unfolding(fields::specs::Fields::opening, fields::specs::Fields::two_bytes))]
+fn opening_bytes(p: Profile) -> [u8; OPENING]
+    ensures { result ≡ opening 1 (profile_content_length p) }
+{
+    match p.edition {
+        1 => *b"\x01\x00\x06",
+        _ => *b"\x01\x00\x07",
+    }
+}
+
 // The content: as many of these bytes as it is long. There is no heap: the caller cuts them.
 fn content_bytes(p: Profile) -> [u8; MAX_CONTENT]
     ensures { take (profile_content_length p) result ≡ profile_content p }
@@ -45,18 +57,16 @@ pub fn put(out: &mut [u8], at: usize, p: Profile) -> usize
     ensures { Wrote out.old at (field_of 1 (profile_content p)) result out.new }
 {
     let content = content_bytes(p);
-    let content = &content[..content_length(p)];
-    let after_opening = fields::put_opening(out, at, 1, content.len());
-    lists::put_bytes(out, after_opening, content)
+    let after_opening = lists::put_bytes(out, at, &opening_bytes(p));
+    lists::put_bytes(out, after_opening, &content[..content_length(p)])
 }
 
-// Whether the field that starts at `at` has the tag and the length that this profile's has: 'the three bytes 01 00 06',
-// in edition 2 01 00 07.
+// Whether the field that starts at `at` has the tag and the length that this profile's has.
 pub fn opened(p: Profile, b: &[u8], at: usize) -> bool
     requires { at + opening_length ≤ length b.now }
     ensures { result ≡ same (slice b.now at opening_length) (opening 1 (profile_content_length p)) }
 {
-    fields::opens(b, at, 1, content_length(p))
+    lists::same_at(b, at, &opening_bytes(p))
 }
 
 // Whether its content is that of this profile.
