@@ -123,17 +123,19 @@ impl Step {
         Some(Step { r, p, c, rows })
     }
 
-    // A line with the multiplier 0 is left alone.
-    fn apply(&self, s: &mut [Line; SIDE])
-        ensures { s.new ≡ after_step self.now s.old }
+    // The square after the step: it goes by value from step to step, as document 01 asks. A line with the multiplier 0 is
+    // left alone.
+    fn apply(&self, mut s: [Line; SIDE]) -> [Line; SIDE]
+        ensures { result ≡ after_step self.now s }
     {
-        lift(s, self.r, self.p);
+        lift(&mut s, self.r, self.p);
         let y = s[self.r];
         for (i, line) in s[..self.rows].iter_mut().enumerate() {
             if self.c[i] != 0 {
                 line.add(&y, self.c[i]);
             }
         }
+        s
     }
 }
 
@@ -150,8 +152,10 @@ pub fn invert(mut s: [Line; SIDE], rows: usize, columns: usize) -> Result<[Line;
                 lines: s,
             });
         };
-        step.apply(&mut s);
-        step.apply(&mut t);
+        s = step.apply(s);
+        // Put in a local first: the borrow checker does not cover a result that is laid into a lent array.
+        let right = step.apply(t);
+        t = right;
     }
     Ok(t)
 }
@@ -165,7 +169,7 @@ pub fn judge(mut s: [Line; SIDE], rows: usize, columns: usize) -> Option<usize>
         let Some(step) = Step::of(&s, r, rows) else {
             return Some(r);
         };
-        step.apply(&mut s);
+        s = step.apply(s);
     }
     None
 }

@@ -9,7 +9,7 @@ returns-in_default c =
 
 pub loop-r-preserved : goal.loop-r-preserved
 loop-r-preserved c =
-    rw (c.apply.ensures, c.apply-in-loop-r.ensures)
+    rw (c.apply-s.ensures, c.apply-right.ensures)
     (sym (end_next _ _ _ _ c.loop-r-test.true c.in-Some.ensures) ∙ c.loop-r.invariant)
 
 pub returns : goal.returns

@@ -18,7 +18,7 @@ returns-in_default c =
 pub loop-r-preserved : goal.loop-r-preserved
 loop-r-preserved c = (
   after_step c.in-Some.step c.loop-r.invariant.0,
-  rw c.apply.ensures (sym (end_next _ _ _ _ c.loop-r-test.true c.in-Some.ensures) ∙ c.loop-r.invariant.1),
+  rw c.apply-s.ensures (sym (end_next _ _ _ _ c.loop-r-test.true c.in-Some.ensures) ∙ c.loop-r.invariant.1),
 )
 
 pub returns : goal.returns
