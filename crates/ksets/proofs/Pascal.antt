@@ -7,7 +7,7 @@ use native.Mathlib.Nat.{not-suc-le-zero, le_of_suc-le-suc, le_trans, zero-add, a
 use native.Mathlib.Nat.{mul-zero, mul_comm, mul-add, suc-mul, mul-le-mul, mul-div_cancel_left}
 use native.Mathlib.Decide.{dec_lt}
 use native.Mathlib.Omega.{arith}
-use native.Mathlib.Numerals.{sub-one, add-one}
+use native.Mathlib.Numerals.{sub-one}
 use lib.Dec.{leb}
 use lib.ListN.{length, get_or, replicate, set, get_or-replicate, get_or-eq_default}
 use borrow.Author.Tests.{le-leb, lt-leb}
@@ -177,48 +177,32 @@ share_times zero k h l = absurd (not-suc-le-zero h)
 share_times (suc n) zero h l = absurd (not-suc-le-zero l)
 share_times (suc n) (suc k) h l = rw (sub-one, sub-one) (mul_comm (sets (suc n) (suc k)) (suc k) ∙ absorb n k)
 
-rule : (n k : ℕ) → 0 < n → 0 < k → sets n k ≡ sets (n - 1) k + sets (n - 1) (k - 1)
+pub share_fits : (n k : ℕ) → n ≤ 24 → 0 < n → 0 < k → sets n k * k ≤ 24 * 2704156
+share_fits n k f h l =
+    rw (share_times n k h l) (mul-le-mul f (sets_bound (n - 1) (k - 1) (omega arith)))
+
+pub share_is : (n k : ℕ) → 0 < n → 0 < k → sets n k * k / n ≡ sets (n - 1) (k - 1)
+share_is n k h l = rw (share_times n k h l) (mul-div_cancel_left (sets (n - 1) (k - 1)) h)
+
+pub rule : (n k : ℕ) → 0 < n → 0 < k → sets n k ≡ sets (n - 1) k + sets (n - 1) (k - 1)
 rule zero k h l = absurd (not-suc-le-zero h)
 rule (suc n) zero h l = absurd (not-suc-le-zero l)
 rule (suc n) (suc k) h l = rw (sub-one, sub-one) (sym (pascal n k))
 
-module _ (total n k : ℕ) (few : n ≤ 24) (node : 0 < n) (all : total ≡ sets n k) where
-  pub share_fits : total * k ≤ 24 * 2704156
-  share_fits = go (dec_lt 0 k)
-    where
-      go : Dec (0 < k) → total * k ≤ 24 * 2704156
-      go (yes l) = rw (all, share_times n k node l) (mul-le-mul few (sets_bound (n - 1) (k - 1) (omega arith)))
-      go (no l) =
-          let e : k ≡ 0 = omega arith in
-          rw (e, mul-zero) (omega arith)
-
-  -- no set of no nodes has the first node
-  pub share_is : total * k / n + sets (n - 1) k ≡ sets n k
-  share_is = go (dec_lt 0 k)
-    where
-      go : Dec (0 < k) → total * k / n + sets (n - 1) k ≡ sets n k
-      go (yes l) =
-          let share : sets n k * k / n ≡ sets (n - 1) (k - 1) =
-          rw (share_times n k node l) (mul-div_cancel_left (sets (n - 1) (k - 1)) node) in
-          rw all (omega (arith, share, rule n k node l))
-      go (no l) =
-          let e : k ≡ 0 = omega arith in
-          rw (e, mul-zero) (omega (arith, sets_zero n, sets_zero (n - 1)))
-
--- ---- what the rows' functions need
--- past the row there are none
-pub row_at : (n k : ℕ) (row : List ℕ) → n ≤ 24 → row ≡ listed 25 (sets n) → get_or row k 0 ≡ sets n k
-row_at n k row h e = rw e (go (dec_lt k 25))
+-- ---- what the rows' function needs
+pub row_fits : (n : ℕ) → n ≤ 24 → (row : List ℕ) → row ≡ listed 25 (sets n) → (k : ℕ) → get_or row k 0 ≤ 4194304
+row_fits n h row e k = rw e (go (dec_lt k 25))
   where
-    go : Dec (k < 25) → get_or (listed 25 (sets n)) k 0 ≡ sets n k
-    go (yes l) = listed_at 25 (sets n) k 0 l
+    go : Dec (k < 25) → get_or (listed 25 (sets n)) k 0 ≤ 4194304
+    go (yes l) = omega (arith, listed_at 25 (sets n) k 0 l, sets_bound n k h)
     go (no l) =
         let size : length (listed 25 (sets n)) ≤ k = omega (arith, listed_length 25 (sets n)) in
-        get_or-eq_default (listed 25 (sets n)) 0 size ∙ sym (sets_none n k (omega arith))
+        omega (arith, get_or-eq_default (listed 25 (sets n)) 0 size)
 
-pub row_fits : (n : ℕ) → n ≤ 24 → (row : List ℕ) → row ≡ listed 25 (sets n) → (k : ℕ) → get_or row k 0 ≤ 4194304
-row_fits n h row e k = omega (arith, row_at n k row h e, sets_bound n k h)
+pub row_more : (n : ℕ) → 0 < n → (row : List ℕ) → row ≡ listed 25 (sets (n - 1))
+    → listed 25 (next_at row) ≡ listed 25 (sets n)
+row_more zero h row e = absurd (not-suc-le-zero h)
+row_more (suc n) h row e = rw (e, sub-one) (row_next n)
 
-pub row_more : (n : ℕ) (row : List ℕ) → row ≡ listed 25 (sets n)
-    → listed 25 (next_at row) ≡ listed 25 (sets (n + 1))
-row_more n row e = rw (e, add-one) (row_next n)
+pub row_at : (n k : ℕ) (row : List ℕ) → row ≡ listed 25 (sets n) → k < 25 → get_or row k 0 ≡ sets n k
+row_at n k row e h = rw e (listed_at 25 (sets n) k 0 h)

@@ -2,10 +2,12 @@
 // next set.
 #![tactic(auto)]
 
-ghost use Rattle.std.specs.Prelude.{◌≡◌, true, ℕ, ◌+◌, ◌-◌, ◌<◌, ◌≤◌, length, get_or, MatchOption};
+ghost use Rattle.std.specs.Prelude.{◌≡◌, true, ℕ, ◌+◌, ◌-◌, ◌<◌, ◌≤◌, length, get_or, drop, MatchOption};
 ghost use Rattle.lists.specs.Listed.{listed};
+ghost use Rattle.lists.specs.Put.{put};
 ghost use Rattle.ksets.specs.Sets.{max_nodes, sets, set_at, rank_of, full, run, next_of};
-ghost use Rattle.ksets.specs.Workers.{next_at, Shared, Raised, Steps};
+ghost use Rattle.ksets.specs.Workers.{next_at, Writes};
+ghost use Rattle.ksets.specs.Workers.{Shared, Ranks, Raised, Steps};
 
 use std::array;
 
@@ -23,80 +25,97 @@ fn next_row(row: [usize; ENTRIES]) -> [usize; ENTRIES]
     array::from_fn(|k| if k == 0 { 1 } else { row[k] + row[k - 1] })
 }
 
-// Pascal's row n: the first one, and then each from the row above it.
-#[tactic(auto, using(crate::proofs::Pascal::row_first, crate::proofs::Pascal::row_fits, crate::proofs::Pascal::row_more))]
+// Pascal's row n, from the row above it. Document 01 asks for recursion here, and where sets are written and ranked.
 fn row_of(n: usize) -> [usize; ENTRIES]
     requires { n ≤ max_nodes }
     ensures { result ≡ listed (max_nodes + 1) (sets n) }
 {
-    let mut row = [0; ENTRIES];
-    row[0] = 1;
-    for _ in 0..n {
-        row = next_row(row);
+    if n == 0 {
+        let mut first: [usize; ENTRIES] = [0; ENTRIES];
+        first[0] = 1;
+        return first;
     }
-    row
+    let above = row_of(n - 1);
+    next_row(above)
 }
 
 // The number of sets of k of n nodes.
-#[tactic(auto, using(crate::proofs::Pascal::row_at))]
 pub fn count(n: usize, k: usize) -> usize
     requires { n ≤ max_nodes }
     ensures { result ≡ sets n k }
 {
-    row_of(n).get(k).copied().unwrap_or(0)
+    if MAX_NODES < k {
+        return 0;
+    }
+    let row = row_of(n);
+    row[k]
 }
 
 // Of the `total` sets of k of n nodes, those with the first node: each node is in k of n of them.
-#[tactic(auto, using(crate::proofs::Pascal::share_fits, crate::proofs::Pascal::share_is))]
 fn share(total: usize, n: usize, k: usize) -> usize
     requires { Shared total n k }
-    ensures { result + sets (n - 1) k ≡ sets n k }
+    ensures { result ≡ sets (n - 1) (k - 1) }
 {
     total * k / n
 }
 
-// Writes the set at a position: node by node, those with the node come before those without it.
-pub fn unrank(set: &mut [u8], n: usize, mut pos: usize)
-    requires { (n ≤ max_nodes) × (pos < sets n (length set.old)) }
-    ensures { set.new ≡ set_at 0 n (length set.old) pos }
+// Writes the set's nodes, k of the n nodes from b on, into `set` from `at` on; `total` is the number of these sets.
+fn write_set(set: &mut [u8], at: usize, b: usize, n: usize, k: usize, pos: usize, total: usize)
+    requires { Writes set.old at b n k total }
+    ensures { set.new ≡ put set.old at (set_at b n k pos) }
 {
-    let mut total = count(n, set.len());
-    let mut at = 0;
-    for b in 0..n {
-        let with = share(total, n - b, set.len() - at);
-        if pos < with {
-            set[at] = b as u8;
-            at += 1;
-            total = with;
-        } else {
-            pos -= with;
-            total -= with;
-        }
+    if k == 0 {
+        return;
+    }
+    if n == 0 {
+        return;
+    }
+    let with = share(total, n, k);
+    if pos < with {
+        set[at] = b as u8;
+        write_set(set, at + 1, b + 1, n - 1, k - 1, pos, with);
+    } else {
+        write_set(set, at, b + 1, n - 1, k, pos - with, total - with);
     }
 }
 
-// The position of a set: node by node, those with the node are passed over where the set is without it.
+// Writes the set at a position.
+pub fn unrank(set: &mut [u8], n: usize, pos: usize)
+    requires { (n ≤ max_nodes) × (pos < sets n (length set.old)) }
+    ensures { set.new ≡ set_at 0 n (length set.old) pos }
+{
+    let k = set.len();
+    let total = count(n, k);
+    write_set(set, 0, 0, n, k, pos, total);
+}
+
+// The position of the nodes from `at` on among the `total` sets of as many of the n nodes from b on.
+fn rank_from(set: &[u8], at: usize, b: usize, n: usize, k: usize, total: usize) -> usize
+    requires { Ranks set.now at b n k total }
+    ensures { result ≡ rank_of b n (drop at set.now) }
+{
+    if k == 0 {
+        return 0;
+    }
+    if n == 0 {
+        return 0;
+    }
+    let with = share(total, n, k);
+    if set[at] as usize == b {
+        return rank_from(set, at + 1, b + 1, n - 1, k - 1, with);
+    }
+    let past = rank_from(set, at, b + 1, n - 1, k, total - with);
+    with + past
+}
+
+// The position of a set.
 pub fn rank(set: &[u8], n: usize) -> usize
     requires { n ≤ max_nodes }
     ensures { result ≡ rank_of 0 n set.now }
 {
-    let mut total = count(n, set.len());
-    let mut rest = set;
-    let mut pos = 0;
-    for b in 0..n {
-        let with = share(total, n - b, rest.len());
-        match rest {
-            [x, more @ ..] if usize::from(*x) == b => {
-                rest = more;
-                total = with;
-            }
-            _ => {
-                pos += with;
-                total -= with;
-            }
-        }
-    }
-    pos
+    let k = set.len();
+    let total = count(n, k);
+    rank_from(set, 0, 0, n, k, total)
 }
 
 // The last entry that can be raised, with those after it, and stay below n; none if none can.
