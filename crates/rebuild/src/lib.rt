@@ -142,6 +142,7 @@ impl Rows<'_> {
     {
         let p = self.p;
         let f = self.f;
+        let k = p.k;
         let at = f.0 / p.a * p.a + i;
         let mut w = [0u8; Profile::MAX_NODES];
         divided_weights(
@@ -149,10 +150,10 @@ impl Rows<'_> {
             self.denominators,
             at as u8,
             self.determinants,
-            &mut w[..p.k],
+            &mut w[..k],
         );
         let c = scale(p, f, i);
-        coupling::put_multiple(out, &w[..p.k], c);
+        coupling::put_multiple(out, &w[..k], c);
     }
 
     // Row i: the sum of the folded strips by the row's coefficients, and the group's own strip, the one at place `own`.

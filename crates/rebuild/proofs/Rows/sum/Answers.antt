@@ -13,9 +13,9 @@ pub returns-then-i-f : goal.returns-then-i-f
 returns-then-i-f c =
     let r = c.args.self.now in
     let summed = c.combine.ensures
-        ∙ ap (combination_of c.args.coefficients.now r.folded.now ((r.p.a - 1) * r.p.s) r.p.s) c.requires.lengths.0 in
+    ∙ ap (combination_of c.args.coefficients.now r.folded.now ((r.p.a - 1) * r.p.s) r.p.s) c.requires.lengths.0 in
     let within : c.args.own * r.p.s + r.p.s ≤ length r.folded.now =
-        omega (arith, r.long, room c.args.own (r.p.a - 1) r.p.s (c.requires.i_lt_a.1 c.if-i-f.true)) in
+    omega (arith, r.long, room c.args.own (r.p.a - 1) r.p.s (c.requires.i_lt_a.1 c.if-i-f.true)) in
     c.add_times.ensures
     ∙ row_other r.p r.f c.args.i c.args.own c.args.coefficients.now r.folded.now summed
     (strip_part r.folded.now (c.args.own * r.p.s) r.p.s within) c.own_scale-c.ensures c.if-i-f.true
