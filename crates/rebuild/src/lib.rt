@@ -2,7 +2,7 @@
 // sum of these strips, by coefficients computed once a row.
 #![tactic(auto)]
 
-ghost use Rattle.std.specs.Prelude.{◌≡◌, ◌≢◌, [], ◌∷◌, ◌+◌, ◌*◌, ◌<◌, ◌-◌, ◌%◌, ◌≤◌, length};
+ghost use Rattle.std.specs.Prelude.{◌≡◌, ◌≢◌, [], ◌∷◌, ℕ, ◌+◌, ◌*◌, ◌^◌, ◌<◌, ◌-◌, ◌%◌, ◌≤◌, length, slice_index};
 ghost use Rattle.document.specs.ByteField.{number};
 ghost use Rattle.document.specs.Profile.{Accepted};
 ghost use Rattle.document.specs.Plan.{walk_of, chosen_over, nodes_over, planned};
@@ -18,55 +18,57 @@ ghost use Rattle.rebuild.specs.Column.{row_of, rows_of, NodesOf};
 use document::{Node, Numbers, Profile, Recording, Refusal, Row};
 use plan::Step;
 
-// Folds the strips that are read at node j into one; they stand in the plan from place m on. Returns the place after.
-fn fold_strip(
-    out: &mut [u8],
-    src: &[u8],
-    first: usize,
-    stride: usize,
+// The strips that are read for the lost node f, in plan order: strip i stands in src at first + i·stride.
+#[derive(Drop)]
+struct Sources<'a> {
     p: Profile,
     f: Node,
-    j: usize,
-    m: usize,
-) -> usize
-    requires accepted { Accepted p × (f.0 < p.n) × (length out.old ≡ p.s) }
-    requires strips_fit { StripsFit p f src.now first stride × NodeAt p f j m }
-    ensures { (result ≡ m + length (places_at p.a f j))
-        × (out.new ≡ folded_of p f (given_at (planned p f) src.now first stride) (j ∷ [])) }
-{
-    let own = first + m * stride;
-    out.copy_from_slice(&src[own..own + p.s]);
-    if plan::in_step(Step::OffDiagonal, p, f, j) {
-        let partner = first + (m + 1) * stride;
-        let c = f.0 % p.a;
-        let l = j % p.a;
-        let t = p.factor(Row(c), l);
-        coupling::add_times(out, &src[partner..partner + p.s], t);
-        return m + 2;
-    }
-    m + 1
+    src: &'a [u8],
+    first: usize,
+    stride: usize,
+    ghost lost: { Accepted p × (f.0 < p.n) },
+    ghost fit: { StripsFit p f src.now first stride },
+    ghost bytes: { (e : ℕ) → slice_index src.now e < 2 ^ 8 },
 }
 
-// Folds the strips of src, given in plan order, strip i at first + i·stride: one strip for each of the plan's nodes.
-fn fold_strips(
-    out: &mut [u8],
-    src: &[u8],
-    first: usize,
-    stride: usize,
-    p: Profile,
-    f: Node,
-    nodes: &[u8],
-)
-    requires accepted { Accepted p × (f.0 < p.n) × (nodes.now ≡ nodes_over p.k (walk_of p f)) }
-    requires out_len { (length out.old ≡ length nodes.now * p.s) × StripsFit p f src.now first stride }
-    ensures { out.new
-        ≡ folded_of p f (given_at (planned p f) src.now first stride) nodes.now }
-{
-    let s = p.s;
-    let mut m = 0;
-    for (i, node) in nodes.iter().enumerate() {
-        let strip = &mut out[i * s..i * s + s];
-        m = fold_strip(strip, src, first, stride, p, f, usize::from(*node), m);
+impl Sources<'_> {
+    // Folds the strips that are read at node j into one; they stand in the plan from place m on. Returns the place after.
+    fn fold_at(&self, out: &mut [u8], j: usize, m: usize) -> usize
+        requires out_len { length out.old ≡ self.now.p.s }
+        requires at { NodeAt self.now.p self.now.f j m }
+        ensures { let g = self.now in
+            let x = given_at (planned g.p g.f) g.src.now g.first g.stride in
+            (result ≡ m + length (places_at g.p.a g.f j)) × (out.new ≡ folded_of g.p g.f x (j ∷ [])) }
+    {
+        let p = self.p;
+        let f = self.f;
+        let src = self.src;
+        let own = self.first + m * self.stride;
+        out.copy_from_slice(&src[own..own + p.s]);
+        if plan::in_step(Step::OffDiagonal, p, f, j) {
+            let partner = self.first + (m + 1) * self.stride;
+            let c = f.0 % p.a;
+            let l = j % p.a;
+            let t = p.factor(Row(c), l);
+            coupling::add_times(out, &src[partner..partner + p.s], t);
+            return m + 2;
+        }
+        m + 1
+    }
+
+    // Folds them all: one strip for each of the plan's nodes.
+    fn fold(&self, out: &mut [u8], nodes: &[u8])
+        requires { (nodes.now ≡ nodes_over self.now.p.k (walk_of self.now.p self.now.f))
+            × (length out.old ≡ length nodes.now * self.now.p.s) }
+        ensures { let g = self.now in
+            out.new ≡ folded_of g.p g.f (given_at (planned g.p g.f) g.src.now g.first g.stride) nodes.now }
+    {
+        let s = self.p.s;
+        let mut m = 0;
+        for (i, node) in nodes.iter().enumerate() {
+            let strip = &mut out[i * s..i * s + s];
+            m = self.fold_at(strip, usize::from(*node), m);
+        }
     }
 }
 
@@ -114,91 +116,79 @@ fn divided_weights(nodes: &[u8], denominators: &[u8], at: u8, determinants: &[u8
     gf256::divide_all(out, determinants);
 }
 
-// The coefficients of row i of the lost column.
-fn row_coefficients(
+// What each row of the lost node f's column is made of: the folded strips, of which the A-1 of f's group stand first, the
+// nodes that they were folded for, and what does not depend on the row.
+#[derive(Drop)]
+struct Rows<'a> {
     p: Profile,
     f: Node,
-    nodes: &[u8],
-    denominators: &[u8],
-    determinants: &[u8],
-    i: usize,
-    out: &mut [u8],
-)
-    requires accepted { Accepted p × (f.0 < p.n) × (i < p.a) }
-    requires nodes_len { (length nodes.now ≡ p.k) × Different nodes.now × Outside nodes.now (member_at p f i) }
-    requires denominators_value { (denominators.now ≡ denominators_of nodes.now)
-        × (determinants.now ≡ determinants_of p f nodes.now) }
-    requires out_len { length out.old ≡ p.k }
-    ensures { out.new ≡ coefficients_of p f nodes.now i }
-{
-    let k = p.k;
-    let at = f.0 / p.a * p.a + i;
-    let mut w = [0u8; Profile::MAX_NODES];
-    divided_weights(nodes, denominators, at as u8, determinants, &mut w[..k]);
-    let c = scale(p, f, i);
-    coupling::put_multiple(out, &w[..k], c);
+    folded: &'a [u8],
+    own: &'a [u8],
+    chosen: &'a [u8],
+    denominators: &'a [u8],
+    determinants: &'a [u8],
+    ghost lost: { Accepted p × (f.0 < p.n) },
+    ghost long: { (p.a - 1) * p.s + p.k * p.s ≤ length folded.now },
+    ghost nodes: { NodesOf p f own.now chosen.now },
+    ghost divisors: { (denominators.now ≡ denominators_of chosen.now)
+        × (determinants.now ≡ determinants_of p f chosen.now) },
 }
 
-// Row i of the lost column: the sum of the folded strips by the row's coefficients, and the group's own strip `own`.
-// The A-1 strips of the group stand first in `folded`, then those of the chosen nodes.
-fn sum_row(
-    dst: &mut [u8],
-    folded: &[u8],
-    p: Profile,
-    f: Node,
-    i: usize,
-    coefficients: &[u8],
-    own: usize,
-)
-    requires accepted { Accepted p × (length dst.old ≡ p.s) × (length coefficients.now ≡ p.k) }
-    requires s_in_bounds { (p.a - 1) * p.s + p.k * p.s ≤ length folded.now }
-    requires i_lt_a { (i < p.a) × (i ≢ f.0 % p.a → own < p.a - 1) }
-    ensures { dst.new ≡ row_from p f i own coefficients.now folded.now }
-{
-    let s = p.s;
-    strips::combine(dst, folded, (p.a - 1) * s, s, coefficients);
-    if i != f.0 % p.a {
-        let from = own * s;
-        let end = from + s;
-        let c = own_scale(p, f, i);
-        coupling::add_times(dst, &folded[from..end], c);
+impl Rows<'_> {
+    // The coefficients of row i.
+    fn put_coefficients(&self, i: usize, out: &mut [u8])
+        requires { (i < self.now.p.a) × (length out.old ≡ self.now.p.k) }
+        ensures { out.new ≡ coefficients_of self.now.p self.now.f self.now.chosen.now i }
+    {
+        let p = self.p;
+        let f = self.f;
+        let k = p.k;
+        let at = f.0 / p.a * p.a + i;
+        let mut w = [0u8; Profile::MAX_NODES];
+        divided_weights(
+            self.chosen,
+            self.denominators,
+            at as u8,
+            self.determinants,
+            &mut w[..k],
+        );
+        let c = scale(p, f, i);
+        coupling::put_multiple(out, &w[..k], c);
     }
-}
 
-// Row i of the lost column, with its coefficients computed.
-fn put_row(
-    dst: &mut [u8],
-    folded: &[u8],
-    p: Profile,
-    f: Node,
-    i: usize,
-    own: &[u8],
-    chosen: &[u8],
-    denominators: &[u8],
-    determinants: &[u8],
-)
-    requires accepted { Accepted p × (f.0 < p.n) × (i < p.a) × NodesOf p f own.now chosen.now }
-    requires denominators_value { (denominators.now ≡ denominators_of chosen.now)
-        × (determinants.now ≡ determinants_of p f chosen.now) }
-    requires dst_len { (length dst.old ≡ p.s) × ((p.a - 1) * p.s + p.k * p.s ≤ length folded.now) }
-    ensures { dst.new ≡ row_of p f own.now chosen.now folded.now i }
-{
-    let k = p.k;
-    let mut coefficients = [0u8; Profile::MAX_NODES];
-    row_coefficients(
-        p,
-        f,
-        chosen,
-        denominators,
-        determinants,
-        i,
-        &mut coefficients[..k],
-    );
-    // Node i of the group. The lost node, which is not in `own`, gives no strip: for its row the place is not read.
-    let member = f.0 / p.a * p.a + i;
-    let found = own.iter().position(|j| usize::from(*j) == member);
-    let at = found.unwrap_or(own.len());
-    sum_row(dst, folded, p, f, i, &coefficients[..k], at);
+    // Row i: the sum of the folded strips by the row's coefficients, and the group's own strip, the one at place `own`.
+    fn sum(&self, i: usize, coefficients: &[u8], own: usize, dst: &mut [u8])
+        requires lengths { (length dst.old ≡ self.now.p.s) × (length coefficients.now ≡ self.now.p.k) }
+        requires i_lt_a { (i < self.now.p.a) × (i ≢ self.now.f.0 % self.now.p.a → own < self.now.p.a - 1) }
+        ensures { dst.new ≡ row_from self.now.p self.now.f i own coefficients.now self.now.folded.now }
+    {
+        let p = self.p;
+        let f = self.f;
+        let s = p.s;
+        strips::combine(dst, self.folded, (p.a - 1) * s, s, coefficients);
+        if i != f.0 % p.a {
+            let from = own * s;
+            let c = own_scale(p, f, i);
+            coupling::add_times(dst, &self.folded[from..from + s], c);
+        }
+    }
+
+    // Row i, with its coefficients computed.
+    fn put(&self, i: usize, dst: &mut [u8])
+        requires { (i < self.now.p.a) × (length dst.old ≡ self.now.p.s) }
+        ensures { dst.new ≡ row_of self.now.p self.now.f self.now.own.now self.now.chosen.now self.now.folded.now i }
+    {
+        let p = self.p;
+        let f = self.f;
+        let own = self.own;
+        let mut coefficients = [0u8; Profile::MAX_NODES];
+        self.put_coefficients(i, &mut coefficients[..p.k]);
+        // Node i of the group. The lost node, which is not in `own`, gives no strip: for its row the place is not read.
+        let member = f.0 / p.a * p.a + i;
+        let found = own.iter().position(|j| usize::from(*j) == member);
+        let at = found.unwrap_or(own.len());
+        self.sum(i, &coefficients[..p.k], at, dst);
+    }
 }
 
 // The rows of the lost column. What does not depend on the row is computed once.
@@ -212,19 +202,18 @@ fn put_rows(column: &mut [u8], folded: &[u8], p: Profile, f: Node, own: &[u8], c
     coefficients::denominators(chosen, &mut denominators[..k]);
     let mut determinants = [0u8; Profile::MAX_NODES];
     pair_determinants(p, f, chosen, &mut determinants[..k]);
+    let rows = Rows {
+        p,
+        f,
+        folded,
+        own,
+        chosen,
+        denominators: &denominators[..k],
+        determinants: &determinants[..k],
+    };
     let s = p.s;
     for row in 0..p.a {
-        put_row(
-            &mut column[row * s..row * s + s],
-            folded,
-            p,
-            f,
-            row,
-            own,
-            chosen,
-            &denominators[..k],
-            &determinants[..k],
-        );
+        rows.put(row, &mut column[row * s..row * s + s]);
     }
 }
 
@@ -257,15 +246,14 @@ pub fn rebuild_column(
     let count = plan::list_nodes(&mut nodes, p, f);
     let size = count * p.s;
     let mut folded = [0u8; Profile::MAX_NODES * Profile::MAX_STRIP];
-    fold_strips(
-        &mut folded[..size],
+    let sources = Sources {
+        p,
+        f,
         src,
         first,
         stride,
-        p,
-        f,
-        &nodes[..count],
-    );
+    };
+    sources.fold(&mut folded[..size], &nodes[..count]);
     rebuild_rows(column, &folded[..size], p, f, &nodes[..count]);
 }
 

@@ -33,60 +33,54 @@ pub fn input_buffer() -> [u8; ROOM]
 fn byte_in(input: &[u8], i: usize) -> u8
     ensures { result ≡ byte_in input.now i }
 {
-    if i < input.len() {
-        return input[i];
-    }
-    0
+    input.get(i).copied().unwrap_or(0)
 }
 
 // The numbers of the wanted profile, S high byte first; the program stays with edition 1.
+#[tactic(auto, unfolding(document::specs::Program::wanted_numbers))]
 fn numbers(input: &[u8]) -> Numbers
     ensures { (result ≡ wanted_numbers input.now) × (result.a ≤ 255) × (result.s ≤ 65535) }
 {
-    let n = byte_in(input, 0) as usize;
-    let k = byte_in(input, 1) as usize;
-    let a = byte_in(input, 2) as usize;
-    let t = byte_in(input, 3) as usize;
-    let high = byte_in(input, 4) as usize;
-    let low = byte_in(input, 5) as usize;
+    let s = [byte_in(input, 4), byte_in(input, 5)];
     Numbers {
-        n,
-        k,
-        a,
-        t,
-        s: high * 256 + low,
+        n: usize::from(byte_in(input, 0)),
+        k: usize::from(byte_in(input, 1)),
+        a: usize::from(byte_in(input, 2)),
+        t: usize::from(byte_in(input, 3)),
+        s: usize::from(u16::from_be_bytes(s)),
         edition: 1,
     }
 }
 
 // The wanted recording: the scenario, then the run, high byte first.
+#[tactic(auto, unfolding(document::specs::Program::wanted_recording))]
 fn recording(input: &[u8]) -> Recording
     ensures { result ≡ wanted_recording input.now }
 {
-    let b0 = byte_in(input, 7) as u32;
-    let b1 = byte_in(input, 8) as u32;
-    let b2 = byte_in(input, 9) as u32;
-    let b3 = byte_in(input, 10) as u32;
-    let high = byte_in(input, 11) as u16;
-    let low = byte_in(input, 12) as u16;
+    let scenario = [
+        byte_in(input, 7),
+        byte_in(input, 8),
+        byte_in(input, 9),
+        byte_in(input, 10),
+    ];
+    let run = [byte_in(input, 11), byte_in(input, 12)];
     Recording {
-        scenario: ((b0 * 256 + b1) * 256 + b2) * 256 + b3,
-        run: high * 256 + low,
+        scenario: u32::from_be_bytes(scenario),
+        run: u16::from_be_bytes(run),
     }
 }
 
 // Writes a number in decimal digits.
+#[tactic(auto, unfolding(document::specs::Program::decimal))]
 fn put_decimal(out: &mut [u8], at: usize, v: usize) -> usize
     requires { (at + 2 ≤ length out.old) × (v < 100) }
     ensures { Wrote out.old at (decimal v) result out.new }
 {
     if v < 10 {
-        out[at] = 48 + v as u8;
-        return at + 1;
+        return lists::put_bytes(out, at, &[b'0' + v as u8]);
     }
-    out[at] = 48 + (v / 10) as u8;
-    out[at + 1] = 48 + (v % 10) as u8;
-    at + 2
+    let digits = [b'0' + (v / 10) as u8, b'0' + (v % 10) as u8];
+    lists::put_bytes(out, at, &digits)
 }
 
 // Writes a text and the number after it.

@@ -21,7 +21,7 @@ loop-row-preserved c =
       search rules,
       next_part a.p.s (row_of a.p a.f a.own.now a.chosen.now a.folded.now) l.row
           (row_length a.p a.f a.own.now a.chosen.now a.folded.now l.row) l.column _ _
-          l.invariant.1 c.put_row.ensures,
+          l.invariant.1 c.put.ensures,
     )
 
 pub returns : goal.returns

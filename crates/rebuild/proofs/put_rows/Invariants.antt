@@ -8,5 +8,6 @@ use Rattle.rebuild.proofs.put_rows.Given as goal
 
 abbrev pub invariant-loop-row : goal.invariant-loop-row
 invariant-loop-row l =
-    (length l.column ≡ l.p.a * l.p.s)
-    × (take (l.row * l.p.s) l.column ≡ parts l.p.s (row_of l.p l.f l.own l.chosen l.folded) l.row)
+    let r = l.fn in
+    (length l.column ≡ r.p.a * r.p.s)
+    × (take (l.row * r.p.s) l.column ≡ parts r.p.s (row_of r.p r.f r.own r.chosen r.folded) l.row)

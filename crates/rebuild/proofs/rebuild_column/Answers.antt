@@ -16,7 +16,7 @@ use Rattle.rebuild.specs.Folded.{folded_of}
 use Rattle.rebuild.specs.Column.{rows_of}
 use Rattle.rebuild.proofs.Folded.{folded_length}
 use Rattle.rebuild.proofs.Column.{column_rebuilt}
-use Rattle.rebuild.proofs.rebuild_column.Goals.{After-fold_strips, After-list_nodes-count, Start}
+use Rattle.rebuild.proofs.rebuild_column.Goals.{After-fold, After-list_nodes-count, Start}
 use Rattle.rebuild.proofs.rebuild_column.Goals as goal
 
 -- past the nodes' listing
@@ -52,51 +52,42 @@ overflow_mul-size c = omega (arith, strips_fit (goal.at.overflow_mul-size c).Aft
 pub slice_bounds-folded-end : goal.slice_bounds-folded-end
 slice_bounds-folded-end c = strips_fit (goal.at.slice_bounds-folded-end c).After-list_nodes-count
 
-pub slice_bounds-fold_strips-end : goal.slice_bounds-fold_strips-end
-slice_bounds-fold_strips-end c = sym (length-take-le _ _ ((strips_fit (goal.at.slice_bounds-fold_strips-end c).After-list_nodes-count)))
+pub slice_bounds-fold-end : goal.slice_bounds-fold-end
+slice_bounds-fold-end c = sym (length-take-le _ _ (strips_fit (goal.at.slice_bounds-fold-end c).After-list_nodes-count))
 
 pub slice_bounds-nodes-end : goal.slice_bounds-nodes-end
 slice_bounds-nodes-end c = nodes_fit (goal.at.slice_bounds-nodes-end c).After-list_nodes-count
 
-pub slice_bounds-fold_strips-end-2 : goal.slice_bounds-fold_strips-end-2
-slice_bounds-fold_strips-end-2 c = sym (nodes_length (goal.at.slice_bounds-fold_strips-end-2 c).After-list_nodes-count)
+pub slice_bounds-fold-end-2 : goal.slice_bounds-fold-end-2
+slice_bounds-fold-end-2 c = sym (nodes_length (goal.at.slice_bounds-fold-end-2 c).After-list_nodes-count)
 
-pub fold_strips-requires : goal.fold_strips-requires
-fold_strips-requires c =
-    record {
-      accepted = (c.requires.accepted.0, c.requires.accepted.1, plan_nodes_lem (goal.at.fold_strips-requires c).After-list_nodes-count);
-      out_len = (
-        sym ((sym (length-take-le _ _ ((strips_fit (goal.at.fold_strips-requires c).After-list_nodes-count))))) ∙ ap (λ (m : ℕ). m * c.args.p.s) (sym (nodes_length (goal.at.fold_strips-requires c).After-list_nodes-count)),
-        c.requires.strips_fit,
-      );
-    }
+pub fold-requires : goal.fold-requires
+fold-requires c =
+    let listed = (goal.at.fold-requires c).After-list_nodes-count in (
+      plan_nodes_lem listed,
+      length-take-le _ _ (strips_fit listed) ∙ ap (λ (m : ℕ). m * c.args.p.s) (sym (nodes_length listed)),
+    )
 
--- past the folding
-module _ (c : After-fold_strips) where
-  abbrev size : ℕ
-  size = (c.list_nodes-count.result) * c.args.p.s
-
+-- past the folding, with what was known of the nodes before
+module _ (c : After-fold)
+    (size : length (take c.list_nodes-count.result c.list_nodes-count.new.out) ≡ c.list_nodes-count.result) where
   abbrev held : List ℕ
-  held = c.fold_strips.new.out
+  held = c.fold.new.out
 
-  written : length held ≡ size
-  written =
-      ap length c.fold_strips.ensures ∙ folded_length _ _ _ ((take ((c.list_nodes-count.result)) c.list_nodes-count.new.out))
-      ∙ ap (λ (m : ℕ). m * c.args.p.s) ((length-take-le ((c.list_nodes-count.result)) c.list_nodes-count.new.out ((wrote_fits c.list_nodes-count.ensures))))
+  written : length held ≡ c.list_nodes-count.result * c.args.p.s
+  written = ap length c.fold.ensures ∙ folded_length _ _ _ _ ∙ ap (λ (m : ℕ). m * c.args.p.s) size
 
-  abbrev folded : List ℕ → List ℕ
-  folded js =
-      let a = c.args in
-      folded_of a.p a.f (given_at (planned a.p a.f) a.src.now a.first a.stride) js
-
-  lent : take size (held ++ drop size (replicate 12288 0)) ≡ folded ((take ((c.list_nodes-count.result)) c.list_nodes-count.new.out))
-  lent = front held _ written ∙ c.fold_strips.ensures
+  held_fits : (rest : List ℕ) → c.list_nodes-count.result * c.args.p.s ≤ length (held ++ rest)
+  held_fits rest = front_fits held rest written
 
 pub slice_bounds-folded-end-2 : goal.slice_bounds-folded-end-2
-slice_bounds-folded-end-2 c = front_fits (held (goal.at.slice_bounds-folded-end-2 c).After-fold_strips) _ (written (goal.at.slice_bounds-folded-end-2 c).After-fold_strips)
+slice_bounds-folded-end-2 c =
+    let s = goal.at.slice_bounds-folded-end-2 c in held_fits s.After-fold (nodes_length s.After-list_nodes-count) _
 
 pub slice_bounds-rebuild_rows-end : goal.slice_bounds-rebuild_rows-end
-slice_bounds-rebuild_rows-end c = sym (length-take-le _ _ ((front_fits (held (goal.at.slice_bounds-rebuild_rows-end c).After-fold_strips) _ (written (goal.at.slice_bounds-rebuild_rows-end c).After-fold_strips))))
+slice_bounds-rebuild_rows-end c =
+    let s = goal.at.slice_bounds-rebuild_rows-end c in
+    sym (length-take-le _ _ (held_fits s.After-fold (nodes_length s.After-list_nodes-count) _))
 
 pub slice_bounds-nodes-end-2 : goal.slice_bounds-nodes-end-2
 slice_bounds-nodes-end-2 c = nodes_fit (goal.at.slice_bounds-nodes-end-2 c).After-list_nodes-count
@@ -106,11 +97,13 @@ slice_bounds-rebuild_rows-end-2 c = sym (nodes_length (goal.at.slice_bounds-rebu
 
 pub rebuild_rows-requires : goal.rebuild_rows-requires
 rebuild_rows-requires c =
+    let s = goal.at.rebuild_rows-requires c in
+    let size = nodes_length s.After-list_nodes-count in
     record {
-      accepted = (c.requires.accepted.0, c.requires.accepted.1, plan_nodes_lem (goal.at.rebuild_rows-requires c).After-list_nodes-count);
+      accepted = (c.requires.accepted.0, c.requires.accepted.1, plan_nodes_lem s.After-list_nodes-count);
       column_len = (
         c.requires.accepted.2,
-        sym ((sym (length-take-le _ _ ((front_fits (held (goal.at.rebuild_rows-requires c).After-fold_strips) _ (written (goal.at.rebuild_rows-requires c).After-fold_strips)))))) ∙ ap (λ (m : ℕ). m * c.args.p.s) (sym (nodes_length (goal.at.rebuild_rows-requires c).After-list_nodes-count)),
+        length-take-le _ _ (held_fits s.After-fold size _) ∙ ap (λ (m : ℕ). m * c.args.p.s) (sym size),
       );
     }
 
@@ -119,7 +112,10 @@ unfolding rebuilt_of
 returns c =
     let p = c.args.p in
     let f = c.args.f in
+    let s = goal.at.returns c in
+    let x = given_at (planned p f) c.args.src.now c.args.first c.args.stride in
     c.rebuild_rows.ensures
     ∙ ap (rows_of p f (walk_of p f).own (chosen_over p.k (walk_of p f)))
-    (lent (goal.at.returns c).After-fold_strips ∙ ap (folded (goal.at.returns c).After-fold_strips) (plan_nodes_lem (goal.at.returns c).After-list_nodes-count))
+    (front c.fold.new.out _ (written s.After-fold (nodes_length s.After-list_nodes-count))
+    ∙ c.fold.ensures ∙ ap (folded_of p f x) (plan_nodes_lem s.After-list_nodes-count))
     ∙ column_rebuilt p c.requires.accepted.0 f c.requires.accepted.1 _
