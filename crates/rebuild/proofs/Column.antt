@@ -1,5 +1,5 @@
 -- The lost column: its rows, made from the strips folded for the plan's nodes, are those of the document's rebuild.
-use mathlib.Core.Path.{◌≡◌, sym, ap, ap₂, ◌∙◌}
+use mathlib.Core.Path.{◌≡◌, sym, ap, ◌∙◌}
 use mathlib.Core.Logic.{◌≢◌}
 use mathlib.Core.List.{List}
 use Prim.Native.Nat.{ℕ, ◌+◌, ◌-◌, ◌*◌, ◌/◌, ◌%◌, ◌<◌}
@@ -8,7 +8,7 @@ use native.Mathlib.Decide.{ℕ_discrete}
 use native.Mathlib.Omega.{arith}
 use lib.Arith.{digits_div}
 use lib.ListN.{length, get_or, take, drop, length-append, get_or-append}
-use lib.Seq.{get_or-append-add, take_at, drop_at, take_all}
+use lib.Seq.{get_or-append-add, take_at, drop_at}
 use Rattle.lists.proofs.Listed.{listed_length, listed_at, listed_ext}
 use Rattle.algebra.specs.Rows.{folded}
 use Rattle.algebra.proofs.Coupling.{factor_diagonal}
@@ -76,11 +76,8 @@ module _ (p : Profile) (acc : Accepted p) (f : Node) (h : f.0 < p.n) where
     pub own_part : take (A - 1) js ≡ own
     own_part = ap (take (A - 1)) e ∙ take_at own chosen (A - 1) own_length
 
-    pub chosen_part : take (length js - (A - 1)) (drop (A - 1) js) ≡ chosen
-    chosen_part =
-        let rest : drop (A - 1) js ≡ chosen = ap (drop (A - 1)) e ∙ drop_at own chosen (A - 1) own_length in
-        let size : length js ≡ A - 1 + k = ap length e ∙ length-append own chosen ∙ ap₂ ◌+◌ own_length count in
-        ap (take (length js - (A - 1))) rest ∙ take_all (length js - (A - 1)) chosen (omega (arith, size, count))
+    pub chosen_part : drop (A - 1) js ≡ chosen
+    chosen_part = ap (drop (A - 1)) e ∙ drop_at own chosen (A - 1) own_length
 
   -- ---- node i of the group stands among the others
   own_at : (i : ℕ) → i < A → i ≢ c

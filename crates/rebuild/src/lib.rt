@@ -224,9 +224,8 @@ fn rebuild_rows(column: &mut [u8], folded: &[u8], p: Profile, f: Node, nodes: &[
     ensures { column.new
         ≡ rows_of p f (walk_of p f).own (chosen_over p.k (walk_of p f)) folded.now }
 {
-    let own = p.a - 1;
-    let count = nodes.len();
-    put_rows(column, folded, p, f, &nodes[..own], &nodes[own..count]);
+    let (own, chosen) = nodes.split_at(p.a - 1);
+    put_rows(column, folded, p, f, own, chosen);
 }
 
 // The lost column, from the strips of src, given in plan order, strip i at first + i·stride.

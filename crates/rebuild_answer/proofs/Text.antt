@@ -14,21 +14,6 @@ use Rattle.document.specs.declared.Refusal.{Refusal}
 use Rattle.document.specs.Refusals.{number_of, index_of}
 use Rattle.document.specs.Program.{decimal, refusal_line}
 
--- ---- decimal digits
-module _ (d : List ℕ) (at v : ℕ) where
-  pub one_digit : at < length d → v < 10 → Wrote d at (decimal v) (at + 1) (set d at (48 + v))
-  unfolding decimal
-  one_digit h small = rw (lt-ltb v 10 small) (wrote_one d at (48 + v) h)
-
-  pub two_digits : at + 2 ≤ length d → 10 ≤ v
-      → Wrote d at (decimal v) (at + 2) (set (set d at (48 + v / 10)) (at + 1) (48 + v % 10))
-  unfolding decimal
-  two_digits h large =
-      rw (le-ltb v 10 large, ← add_assoc at 1 1)
-      (wrote_then {u = (48 + v / 10) ∷ []} {v = (48 + v % 10) ∷ []} (omega arith)
-      (wrote_one d at (48 + v / 10) (omega arith))
-      (wrote_one (set d at (48 + v / 10)) (at + 1) (48 + v % 10) (simp length-set (omega arith))))
-
 decimal_length : (v : ℕ) → length (decimal v) ≤ 2
 unfolding decimal
 decimal_length v = go (ltb v 10)

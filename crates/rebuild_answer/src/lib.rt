@@ -97,7 +97,7 @@ fn put_line(out: &mut [u8], r: Refusal) -> usize
     requires { (17 ≤ length out.old) × (index_of r < 100) }
     ensures { Wrote out.old 0 (refusal_line r) result out.new }
 {
-    let number = put_number(out, 0, b"refused ", r.number() as usize);
+    let number = put_number(out, 0, b"refused ", usize::from(r.number()));
     let index = put_number(out, number, b" at ", r.index());
     lists::put_bytes(out, index, b"\n")
 }

@@ -14,18 +14,6 @@ use Rattle.rebuild_answer.proofs.Answers.{column_answered, line_answered, index_
 use Rattle.rebuild_answer.proofs.put_answer.Goals.{After-min-room, After-rebuild_input, Start}
 use Rattle.rebuild_answer.proofs.put_answer.Goals as goal
 
-pub overflow_mul-p : goal.overflow_mul-p
-overflow_mul-p c =
-    let n = c.numbers-p in
-    let bound : n.result.a * n.result.s ≤ 255 * 65535 = mul-le-mul n.ensures.1 n.ensures.2 in
-    omega arith
-
-pub slice_bounds-rebuild_input-end : goal.slice_bounds-rebuild_input-end
-slice_bounds-rebuild_input-end c = search rules
-
-pub slice_bounds-rebuild_input-end-2 : goal.slice_bounds-rebuild_input-end-2
-slice_bounds-rebuild_input-end-2 c = search rules
-
 -- what was lent to the rebuild
 module _ (r : After-rebuild_input) where
   same : r.numbers-p.result ≡ wanted_numbers r.args.input.now

@@ -1,4 +1,5 @@
 -- `rebuild_answer::put_line` meets its contract: the parts of the line are written in a row.
+use mathlib.Core.Path.{◌∙◌}
 use Prim.Native.Nat.{◌+◌, ◌≤◌}
 use native.Mathlib.Omega.{arith}
 use Rattle.document.proofs.Refusals.{number_bound}
@@ -18,17 +19,18 @@ index_end v =
 
 pub put_number-number-requires : goal.put_number-number-requires
 put_number-number-requires c =
-    (omega (arith, c.requires.0), omega (arith, c.number.ensures, number_bound c.args.r))
+    (omega (arith, c.requires.0), omega (arith, c.from.ensures, c.number.ensures, number_bound c.args.r))
 
 pub put_number-index-requires : goal.put_number-index-requires
 put_number-index-requires c =
-    (omega (arith, number_end (goal.at.put_number-index-requires c).After-put_number-number, c.put_number-number.auto.out, c.requires.0), omega (arith, c.index.ensures, c.requires.1))
+    let end = number_end (goal.at.put_number-index-requires c).After-put_number-number in
+    (omega (arith, end, c.requires.0), omega (arith, c.index.ensures, c.requires.1))
 
 pub put_bytes-requires : goal.put_bytes-requires
 put_bytes-requires c =
-    omega (arith, index_end (goal.at.put_bytes-requires c).After-put_number-index, c.put_number-index.auto.out, c.put_number-number.auto.out, c.requires.0)
+    omega (arith, index_end (goal.at.put_bytes-requires c).After-put_number-index, c.requires.0)
 
 pub returns : goal.returns
 returns c =
     line_written _ c.put_number-number.ensures c.put_number-index.ensures c.put_bytes.ensures
-    c.number.ensures c.index.ensures
+    (c.from.ensures ∙ c.number.ensures) c.index.ensures
