@@ -5,7 +5,6 @@
 ghost use Rattle.std.specs.Prelude.{◌≡◌, ◌*◌, ◌<◌, length, Ok, Err};
 ghost use Rattle.lists.specs.Put.{Wrote};
 ghost use Rattle.document.specs.Refusals.{tried};
-ghost use Rattle.document.specs.Profile.{Accepted};
 ghost use Rattle.document.specs.Plan.{price_of};
 ghost use Rattle.document.specs.Message.{message_length};
 ghost use Rattle.document.specs.Bundle.{lost_content, lost_content_length, bundle_length, bundle_of, write_with, write_of};
@@ -29,7 +28,6 @@ pub const LONGEST: usize = OPENING
 // The length of a bundle: the same for every lost node.
 #[tactic(auto, unfolding(document::specs::Message::strip_field_start))]
 fn bundle_length(p: Profile) -> usize
-    requires { Accepted p }
     ensures { result ≡ message_length p lost_content_length (price_of p.n p.k p.a) }
 {
     message::strip_field(p, LOST, plan::price(p))
@@ -56,8 +54,9 @@ fn lost_content(f: Node, r: Recording) -> [u8; LOST]
 // Writes the whole bundle.
 #[tactic(auto, using(crate::proofs::Planned::bytes_bound, crate::proofs::Planned::taken))]
 fn put_bundle(out: &mut [u8], p: Profile, f: Node, r: Recording, array: &[u8]) -> usize
-    requires { Accepted p × (f.0 < p.n) × (length array.now ≡ p.n * p.a * p.s)
-        × (length out.old ≡ bundle_length p f) }
+    requires node { f.0 < p.n }
+    requires array { length array.now ≡ p.n * p.a * p.s }
+    requires room { length out.old ≡ bundle_length p f }
     ensures { Wrote out.old 0 (bundle_of p f r array.now) result out.new }
 {
     let content = lost_content(f, r);
@@ -73,8 +72,13 @@ fn put_bundle(out: &mut [u8], p: Profile, f: Node, r: Recording, array: &[u8]) -
 }
 
 // Writes a bundle with an accepted profile.
-fn write_with(p: Profile, f: Node, r: Recording, array: &[u8], bundle: &mut [u8]) -> Result<usize, Refusal>
-    requires { Accepted p }
+fn write_with(
+    p: Profile,
+    f: Node,
+    r: Recording,
+    array: &[u8],
+    bundle: &mut [u8],
+) -> Result<usize, Refusal>
     ensures { (result, bundle.new) ≡ write_with p f r array.now bundle.old }
 {
     if f.0 >= p.n {
@@ -108,7 +112,7 @@ pub fn write_bundle(
 // What refuses a bundle that is read: the refusals 6 to 9.
 #[tactic(auto, using(crate::proofs::Planned::bytes_bound, crate::proofs::Planned::taken))]
 pub fn check(p: Profile, f: Node, r: Recording, bundle: &[u8]) -> Result<(), Refusal>
-    requires { Accepted p × (f.0 < p.n) }
+    requires { f.0 < p.n }
     ensures { result ≡ tried (bundle_tests p f r bundle.now) Err (Ok tt) }
 {
     let content = lost_content(f, r);

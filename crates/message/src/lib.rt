@@ -7,7 +7,7 @@ ghost use Rattle.std.specs.Prelude.{◌≡◌, ◌++◌, ◌+◌, ◌*◌, ◌/�
 ghost use Rattle.lists.specs.Put.{Wrote};
 ghost use Rattle.lists.specs.Each.{Each};
 ghost use Rattle.fields.specs.Fields.{field_of};
-ghost use Rattle.document.specs.Profile.{max_strip, Accepted};
+ghost use Rattle.document.specs.Profile.{max_strip};
 ghost use Rattle.document.specs.Places.{place, Within, place_at};
 ghost use Rattle.document.specs.Encoding.{strip_of};
 ghost use Rattle.document.specs.Message.{profile_content, strip_content, strip_field_length, strip_offset};
@@ -29,7 +29,6 @@ pub struct Message<'a> {
     pub content: &'a [u8],
     pub recording: Recording,
     pub places: &'a [u8],
-    ghost accepted: { Accepted profile },
     ghost bounded: { Bounded (length content.now) (length places.now / 2) },
 }
 
@@ -44,7 +43,6 @@ fn head_length(p: Profile, m: usize) -> usize
 
 // How far one field 03 starts from the next, and one strip from the next.
 pub fn strip_stride(p: Profile) -> usize
-    requires { Accepted p }
     ensures { result ≡ strip_field_length p.s }
 {
     OPENING + (PLACED + p.s)
@@ -53,7 +51,7 @@ pub fn strip_stride(p: Profile) -> usize
 // Where the field 03 of strip i starts; with the number of strips for i, the length of the message.
 #[tactic(auto, unfolding(document::specs::Message::strip_field_start))]
 pub fn strip_field(p: Profile, m: usize, i: usize) -> usize
-    requires { Accepted p × Bounded m i }
+    requires { Bounded m i }
     ensures { result ≡ strip_field_start p m i }
 {
     head_length(p, m) + i * strip_stride(p)

@@ -7,37 +7,33 @@ ghost use Rattle.message.specs.PlaceBytes.{places_from};
 ghost use Rattle.message.specs.Reader.{count_of, field_start, opened_in, placed_in, fresh_in, FirstNot};
 
 use crate::{Message, PLACED, place_in};
-use document::{Refusal};
+use document::Refusal;
 use fields::OPENING;
 
 // Bytes as long as the wanted message.
 #[derive(Clone, Copy)]
-struct Received<'a> {
-    wanted: Message<'a>,
-    b: &'a [u8],
-    ghost room: { field_start wanted (count_of wanted) ≤ length b.now },
+struct Received<'w, 'a, 'b> {
+    wanted: &'w Message<'a>,
+    b: &'b [u8],
+    ghost room: { field_start wanted.now (count_of wanted.now) ≤ length b.now },
 }
 
-impl<'a> Received<'a> {
+impl<'w, 'a, 'b> Received<'w, 'a, 'b> {
     // Whether the field 03 of strip i has its tag and its length.
     #[tactic(auto, using(crate::proofs::Fit::field_room), unfolding(document::specs::Message::opened))]
     fn opened(&self, i: usize) -> bool
-        requires { i < count_of self.now.wanted }
-        ensures { result ≡ opened_in self.now.wanted self.now.b.now i }
+        requires { i < count_of self.now.wanted.now }
+        ensures { result ≡ opened_in self.now.wanted.now self.now.b.now i }
     {
-        fields::opens(
-            self.b,
-            self.wanted.field(i),
-            3,
-            PLACED + self.wanted.profile.s,
-        )
+        let wanted = self.wanted;
+        fields::opens(self.b, wanted.field(i), 3, PLACED + wanted.profile.s)
     }
 
     // Whether it has its place.
     #[tactic(auto, using(crate::proofs::Fit::field_room, crate::proofs::Fit::placed_is))]
     fn placed(&self, i: usize) -> bool
-        requires { i < count_of self.now.wanted }
-        ensures { result ≡ placed_in self.now.wanted self.now.b.now i }
+        requires { i < count_of self.now.wanted.now }
+        ensures { result ≡ placed_in self.now.wanted.now self.now.b.now i }
     {
         place_in(self.b, self.wanted.field(i) + OPENING) == self.wanted.place(i)
     }
@@ -45,8 +41,8 @@ impl<'a> Received<'a> {
     // Whether it is of the wanted recording.
     #[tactic(auto, using(crate::proofs::Fit::field_room, crate::proofs::Fit::fresh_is))]
     fn fresh(&self, i: usize) -> bool
-        requires { i < count_of self.now.wanted }
-        ensures { result ≡ fresh_in self.now.wanted self.now.b.now i }
+        requires { i < count_of self.now.wanted.now }
+        ensures { result ≡ fresh_in self.now.wanted.now self.now.b.now i }
     {
         let want = self.wanted.recording.bytes();
         lists::same_at(self.b, self.wanted.field(i) + OPENING + 2, &want)
@@ -54,21 +50,21 @@ impl<'a> Received<'a> {
 
     // Whether all fields 03 have their tag and length.
     fn all_opened(&self) -> bool
-        ensures { result ≡ all (count_of self.now.wanted) (opened_in self.now.wanted self.now.b.now) }
+        ensures { result ≡ all (count_of self.now.wanted.now) (opened_in self.now.wanted.now self.now.b.now) }
     {
         (0..self.wanted.count()).all(|i| self.opened(i))
     }
 
     // The first strip that has another place than the list.
     fn first_misplaced(&self) -> Option<usize>
-        ensures { FirstNot (placed_in self.now.wanted self.now.b.now) (count_of self.now.wanted) result }
+        ensures { FirstNot (placed_in self.now.wanted.now self.now.b.now) (count_of self.now.wanted.now) result }
     {
         (0..self.wanted.count()).find(|&i| !self.placed(i))
     }
 
     // The first strip of another recording.
     fn first_stale(&self) -> Option<usize>
-        ensures { FirstNot (fresh_in self.now.wanted self.now.b.now) (count_of self.now.wanted) result }
+        ensures { FirstNot (fresh_in self.now.wanted.now self.now.b.now) (count_of self.now.wanted.now) result }
     {
         (0..self.wanted.count()).find(|&i| !self.fresh(i))
     }
@@ -89,7 +85,7 @@ impl<'a> Message<'a> {
                 2,
                 self.content.len(),
             )
-            && Received { wanted: *self, b }.all_opened()
+            && Received { wanted: self, b }.all_opened()
     }
 
     // Whether the contents of fields 01 and 02 are the wanted ones.
@@ -119,7 +115,7 @@ impl<'a> Message<'a> {
         if !self.headed(b) {
             return Err(Refusal::Head);
         }
-        let received = Received { wanted: *self, b };
+        let received = Received { wanted: self, b };
         if let Some(i) = received.first_misplaced() {
             return Err(Refusal::Misplaced(i));
         }

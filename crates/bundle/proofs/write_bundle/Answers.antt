@@ -1,11 +1,8 @@
 -- `bundle::write_bundle` meets its contract: the head of a call.
 use mathlib.Core.Path.{sym, ◌∙◌}
 use Rattle.document.specs.Bundle.{write_of}
-use Rattle.document.proofs.Accepts.{accepted, refused_exit, passed}
+use Rattle.document.proofs.Accepts.{refused_exit, passed}
 use Rattle.bundle.proofs.write_bundle.Goals as goal
-
-pub write_with-requires : goal.write_with-requires
-write_with-requires c = accepted _ (sym c.in_ok-profile.ensures)
 
 pub returns-in_err-profile : goal.returns-in_err-profile
 unfolding write_of

@@ -30,7 +30,7 @@ put_strip_of-next-requires-clause-room c =
     let m = c.args.self.now in
     omega (
       arith,
-      next_fits m.profile m.accepted m.recording c.args.array.now c.requires.array m.places.now c.requires.within
+      next_fits m.profile m.recording c.args.array.now c.requires.array m.places.now c.requires.within
           c.loop-i.i (omega arith),
     )
 

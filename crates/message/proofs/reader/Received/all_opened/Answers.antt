@@ -12,7 +12,7 @@ use Rattle.message.proofs.reader.Received.all_opened.Goals as goal
 
 pub returns : goal.returns
 returns c =
-    let test = opened_in c.args.self.now.wanted c.args.self.now.b.now in
+    let test = opened_in c.args.self.now.wanted.now c.args.self.now.b.now in
     all_from_yields_List test _ _ _ c.all.ensures.ran
     (YieldsList-from_range 0 c.count.result c.count.result refl (sub-zero _)) (λ x b q k. search (rules, tests))
     ∙ all_listed test c.count.result ∙ ap (λ (n : ℕ). all n test) c.count.ensures

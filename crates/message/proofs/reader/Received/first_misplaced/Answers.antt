@@ -7,7 +7,7 @@ use Rattle.message.proofs.reader.Received.first_misplaced.Goals as goal
 
 pub returns : goal.returns
 returns c =
-    let test = placed_in c.args.self.now.wanted c.args.self.now.b.now in
+    let test = placed_in c.args.self.now.wanted.now c.args.self.now.b.now in
     rw (← c.count.ensures)
     (first_not test _ _
     (first_from_Range _ _ _ _ (λ i. test i ≡ false) (λ i. test i ≡ true) c.find.ensures.ran
