@@ -5,7 +5,6 @@
 
 ghost use Rattle.std.specs.Prelude.{◌≡◌, ◌*◌, ◌<◌, length};
 ghost use Rattle.ksets.specs.Sets.{Rising};
-ghost use Rattle.document.specs.Profile.{Accepted};
 ghost use Rattle.document.specs.Reading.{list_accepted, read_with, read_of};
 ghost use Rattle.half_pairs.specs.HalfPairs.{position_table, half_pairs, weight_table};
 ghost use Rattle.reading.specs.Steps.{known_strip, known_strips};
@@ -35,7 +34,7 @@ fn accepts_list(nodes: &[u8], n: usize, k: usize) -> bool
 
 // What the columns give of the base strip z: all of it where its partner is named, otherwise the stored strip.
 fn known_strip(out: &mut [u8], p: Profile, nodes: &[u8], positions: &[u8], columns: &[u8], z: usize)
-    requires accepted { Accepted p × Rising p.n p.k nodes.now × (z < p.k * p.a) }
+    requires nodes_rising { Rising p.n p.k nodes.now × (z < p.k * p.a) }
     requires positions_value { (positions.now ≡ position_table nodes.now) × (length out.old ≡ p.s)
         × (length columns.now ≡ p.k * p.a * p.s) }
     ensures { out.new ≡ known_strip p nodes.now columns.now z }
@@ -60,7 +59,7 @@ fn known_strip(out: &mut [u8], p: Profile, nodes: &[u8], positions: &[u8], colum
 
 // The same of all strips.
 fn known_strips(out: &mut [u8], p: Profile, nodes: &[u8], positions: &[u8], columns: &[u8])
-    requires accepted { Accepted p × Rising p.n p.k nodes.now × (positions.now ≡ position_table nodes.now) }
+    requires nodes_rising { Rising p.n p.k nodes.now × (positions.now ≡ position_table nodes.now) }
     requires out_len { (length out.old ≡ p.k * p.a * p.s) × (length columns.now ≡ p.k * p.a * p.s) }
     ensures { out.new ≡ known_strips p nodes.now columns.now }
 {
@@ -72,7 +71,7 @@ fn known_strips(out: &mut [u8], p: Profile, nodes: &[u8], positions: &[u8], colu
 // What the known strips y give of the base strip at the partner of the half pair z: the sum of the strips of its row,
 // with the weights at its node.
 fn known_partner(out: &mut [u8], p: Profile, nodes: &[u8], table: &[u8], y: &[u8], z: usize)
-    requires accepted { Accepted p × Rising p.n p.k nodes.now × (z < p.k * p.a) }
+    requires nodes_rising { Rising p.n p.k nodes.now × (z < p.k * p.a) }
     requires table_value { (table.now ≡ weight_table p nodes.now) × (length out.old ≡ p.s)
         × (length y.now ≡ p.k * p.a * p.s) }
     ensures { out.new ≡ known_partner_strip p nodes.now y.now z }
@@ -86,7 +85,7 @@ fn known_partner(out: &mut [u8], p: Profile, nodes: &[u8], table: &[u8], y: &[u8
 
 // The same for each half pair: the right-hand sides of their system.
 fn known_partners(out: &mut [u8], p: Profile, nodes: &[u8], table: &[u8], halves: &[u8], y: &[u8])
-    requires accepted { Accepted p × Rising p.n p.k nodes.now × (table.now ≡ weight_table p nodes.now) }
+    requires nodes_rising { Rising p.n p.k nodes.now × (table.now ≡ weight_table p nodes.now) }
     requires halves_value { (halves.now ≡ half_pairs p nodes.now) × (length out.old ≡ length halves.now * p.s)
         × (length y.now ≡ p.k * p.a * p.s) }
     ensures { out.new ≡ known_partner_strips p nodes.now y.now }
@@ -107,7 +106,7 @@ fn complete_strip(
     line: Line,
     e: usize,
 )
-    requires accepted { Accepted p × Rising p.n p.k nodes.now × (halves.now ≡ half_pairs p nodes.now) }
+    requires nodes_rising { Rising p.n p.k nodes.now × (halves.now ≡ half_pairs p nodes.now) }
     requires e_in_bounds { (e < length halves.now) × (length y.old ≡ p.k * p.a * p.s)
         × (length r.now ≡ length halves.now * p.s) }
     ensures { y.new
@@ -127,7 +126,7 @@ fn complete_strip(
 
 // Completes all of them.
 fn complete(y: &mut [u8], p: Profile, nodes: &[u8], halves: &[u8], r: &[u8], lines: [Line; SIDE])
-    requires accepted { Accepted p × Rising p.n p.k nodes.now × (halves.now ≡ half_pairs p nodes.now) }
+    requires nodes_rising { Rising p.n p.k nodes.now × (halves.now ≡ half_pairs p nodes.now) }
     requires y_len { (length y.old ≡ p.k * p.a * p.s) × (length r.now ≡ length halves.now * p.s) }
     ensures { y.new
         ≡ completed p nodes.now lines r.now (length halves.now) y.old }
@@ -148,7 +147,7 @@ fn put_column(
     y: &[u8],
     j: usize,
 )
-    requires accepted { Accepted p × Rising p.n p.k nodes.now × (j < p.n) }
+    requires nodes_rising { Rising p.n p.k nodes.now × (j < p.n) }
     requires positions_value { (positions.now ≡ position_table nodes.now) × (table.now ≡ weight_table p nodes.now)
         × (length out.old ≡ p.a * p.s) × (length y.now ≡ p.k * p.a * p.s) }
     ensures { out.new ≡ base_column p nodes.now y.now j }
@@ -167,7 +166,7 @@ fn put_column(
 
 // The base strips of the data nodes.
 fn put_columns(out: &mut [u8], p: Profile, nodes: &[u8], positions: &[u8], table: &[u8], y: &[u8])
-    requires accepted { Accepted p × Rising p.n p.k nodes.now × (positions.now ≡ position_table nodes.now) }
+    requires nodes_rising { Rising p.n p.k nodes.now × (positions.now ≡ position_table nodes.now) }
     requires table_value { (table.now ≡ weight_table p nodes.now) × (length out.old ≡ p.k * p.a * p.s)
         × (length y.now ≡ p.k * p.a * p.s) }
     ensures { out.new ≡ base_columns p nodes.now y.now }
@@ -191,7 +190,7 @@ fn put_data_in(
     columns: &[u8],
     lines: [Line; SIDE],
 )
-    requires accepted { Accepted p × Rising p.n p.k nodes.now × (positions.now ≡ position_table nodes.now) }
+    requires nodes_rising { Rising p.n p.k nodes.now × (positions.now ≡ position_table nodes.now) }
     requires table_value { (table.now ≡ weight_table p nodes.now) × (halves.now ≡ half_pairs p nodes.now) }
     requires columns_len { (length columns.now ≡ p.k * p.a * p.s) × (length out.old ≡ p.k * p.a * p.s)
         × (length y.old ≡ p.k * p.a * p.s) }
@@ -215,7 +214,7 @@ fn put_data(
     columns: &[u8],
     lines: [Line; SIDE],
 )
-    requires accepted { Accepted p × Rising p.n p.k nodes.now × (positions.now ≡ position_table nodes.now) }
+    requires nodes_rising { Rising p.n p.k nodes.now × (positions.now ≡ position_table nodes.now) }
     requires table_value { (table.now ≡ weight_table p nodes.now) × (halves.now ≡ half_pairs p nodes.now) }
     requires columns_len { (length columns.now ≡ p.k * p.a * p.s) × (length out.old ≡ p.k * p.a * p.s) }
     ensures { out.new ≡ data_by p nodes.now lines columns.now }
@@ -237,7 +236,7 @@ fn put_data(
 
 // Reads back from nodes and columns in due form. Whether it is refused is known before a byte is written.
 fn read_from(p: Profile, nodes: &[u8], columns: &[u8], output: &mut [u8]) -> Result<usize, Refusal>
-    requires accepted { Accepted p × Rising p.n p.k nodes.now }
+    requires nodes_rising { Rising p.n p.k nodes.now }
     requires columns_len { (length columns.now ≡ p.k * p.a * p.s) × (length output.old ≡ p.k * p.a * p.s) }
     ensures { (result, output.new)
         ≡ reading_answer p nodes.now columns.now output.old }
@@ -266,7 +265,6 @@ fn read_from(p: Profile, nodes: &[u8], columns: &[u8], output: &mut [u8]) -> Res
 
 // Reads back with an accepted profile.
 fn read_with(p: Profile, nodes: &[u8], columns: &[u8], output: &mut [u8]) -> Result<usize, Refusal>
-    requires { Accepted p }
     ensures { (result, output.new)
         ≡ read_with p nodes.now columns.now output.old }
 {
