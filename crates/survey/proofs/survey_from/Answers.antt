@@ -2,7 +2,6 @@
 use mathlib.Core.Path.{◌≡◌, refl, sym, ap, ◌∙◌}
 use Prim.Native.Nat.{min, ◌+◌, ◌-◌, ◌≤◌}
 use native.Mathlib.Omega.{arith}
-use lib.Seq.{length-take-le}
 use Rattle.lists.proofs.Lent.{front}
 use Rattle.document.specs.Survey.{looked_at}
 use Rattle.document.proofs.Fields.{fields, is_accepted}

@@ -3,7 +3,7 @@ use mathlib.Core.Path.{◌∙◌}
 use Prim.Native.Nat.{◌≤◌}
 use native.Mathlib.Omega.{arith}
 use Rattle.ksets.specs.Sets.{sets}
-use Rattle.document.proofs.Fields.{fields, is_accepted}
+use Rattle.document.proofs.Fields.{fields}
 use Rattle.survey.proofs.Answers.{start_refused, set_refused, answered}
 use Rattle.survey.proofs.survey_with.Goals.{Else-total-start}
 use Rattle.survey.proofs.survey_with.Goals as goal
