@@ -3,10 +3,9 @@ use mathlib.Core.Path.{ap, ◌∙◌}
 use Prim.Native.Nat.{◌≤◌}
 use native.Mathlib.Omega.{arith}
 use borrow.Author.Rules.{rules}
-use lib.ListN.{length}
 use Rattle.square.specs.Steps.{line_at}
 use Rattle.document.specs.Accepted.{Accepted}
-use Rattle.half_pairs.proofs.System.{few_halves}
+use Rattle.half_pairs.proofs.System.{count_few}
 use Rattle.reading.specs.Steps.{completed_strip}
 use Rattle.reading.proofs.Partners.{completed_none, completed_next}
 use Rattle.reading.proofs.complete.Goals.{Start}
@@ -16,13 +15,8 @@ pub loop-e-init : goal.loop-e-init
 loop-e-init c =
     let a = c.args in completed_none a.p a.nodes.now a.lines a.r.now a.y.now
 
-few : (c : Start) → Accepted c.args.p → length c.args.halves.now ≤ 80
-few c acc =
-    omega (
-      arith,
-      ap length c.requires.nodes_rising.1,
-      few_halves c.args.p c.args.nodes.now acc c.requires.nodes_rising.0,
-    )
+few : (c : Start) → Accepted c.args.p → c.args.h.now.count ≤ 80
+few c acc = count_few c.requires.nodes_rising.1 acc c.requires.nodes_rising.0
 
 pub offset_bounds-lines-e : goal.offset_bounds-lines-e
 offset_bounds-lines-e c = omega (arith, few (goal.at.offset_bounds-lines-e c).Start (search rules))

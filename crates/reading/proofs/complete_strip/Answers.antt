@@ -16,10 +16,10 @@ use Rattle.document.specs.ByteField.{number}
 use Rattle.document.specs.Encoding.{factor_at}
 use Rattle.document.proofs.Fields.{fields, is_accepted}
 use Rattle.document.proofs.Bounds.{room}
-use Rattle.half_pairs.specs.HalfPairs.{named, half_pairs, half_pair_at}
-use Rattle.half_pairs.proofs.System.{few_halves}
+use Rattle.half_pairs.specs.HalfPairs.{named, half_pair_at}
+use Rattle.half_pairs.proofs.System.{count_few}
 use Rattle.reading.specs.Steps.{partner_strip, completed_strip}
-use Rattle.reading.proofs.Partners.{partner_length, half_below}
+use Rattle.reading.proofs.Partners.{partner_length, half_below, half_entry}
 use Rattle.reading.proofs.complete_strip.Goals.{After-combine, Start}
 use Rattle.reading.proofs.complete_strip.Goals as goal
 
@@ -31,13 +31,10 @@ module _ (s : Start) (acc : Accepted s.args.p) where
   nodes = s.args.nodes.now
 
   abbrev z : ℕ
-  z = get_or s.args.halves.now s.args.e 0
+  z = get_or s.args.h.now.halves s.args.e 0
 
-  size : length s.args.halves.now ≡ length (half_pairs p nodes)
-  size = ap length s.requires.nodes_rising.1
-
-  few : length s.args.halves.now ≤ 80
-  few = omega (arith, size, few_halves p nodes acc s.requires.nodes_rising.0)
+  few : s.args.h.now.count ≤ 80
+  few = count_few s.requires.nodes_rising.1 acc s.requires.nodes_rising.0
 
   -- a line is an array of 80
   line_length : length s.args.line.c ≡ 80
@@ -45,12 +42,12 @@ module _ (s : Start) (acc : Accepted s.args.p) where
 
   -- the entry of the list of strips
   strip : z ≡ half_pair_at p nodes s.args.e
-  strip = ap (λ (l : List ℕ). get_or l s.args.e 0) s.requires.nodes_rising.1
+  strip = half_entry s.requires.nodes_rising.1 s.args.e s.requires.nodes_rising.2
 
   below : z < p.k * p.a
   below =
       rw strip
-      (half_below p acc nodes s.requires.nodes_rising.0 s.args.e (omega (arith, size, s.requires.e_in_bounds.0)))
+      (half_below p acc nodes s.requires.nodes_rising.0 s.args.e (omega (arith, s.requires.nodes_rising.1.count, s.requires.nodes_rising.2)))
 
   -- the strip lies within y
   inside : z * p.s + p.s ≤ p.k * p.a * p.s
@@ -60,6 +57,11 @@ pub joined_place-q-requires : goal.joined_place-q-requires
 joined_place-q-requires c =
     let acc = is_accepted c.p.view_is c.p.invariant in
     (risen_length c.requires.nodes_rising.0, below (goal.at.joined_place-q-requires c).Start acc)
+
+pub bounds-h-e : goal.bounds-h-e
+bounds-h-e c =
+    let acc = is_accepted c.p.view_is c.p.invariant in
+    omega (arith, few (goal.at.bounds-h-e c).Start acc, c.requires.nodes_rising.2)
 
 pub slice_bounds-c-end : goal.slice_bounds-c-end
 slice_bounds-c-end c =
@@ -77,13 +79,13 @@ pub combine-requires : goal.combine-requires
 combine-requires c =
     let w = (goal.at.combine-requires c).Start in
     let acc = is_accepted c.p.view_is c.p.invariant in
-    let size = length-take-le (length c.args.halves.now) c.args.line.c (omega (arith, few w acc, line_length w acc)) in
+    let size = length-take-le (c.args.h.now.count) c.args.line.c (omega (arith, few w acc, line_length w acc)) in
     rw (fields c.p.view_is) (record {
       few = omega (arith, size, few w acc);
       short = search rules;
       reach = λ q h.
-          let r = room q (length c.args.halves.now) c.args.p.s (omega (arith, h, size)) in
-          rw length-take (omega (arith, r, c.requires.e_in_bounds.2));
+          let r = room q (c.args.h.now.count) c.args.p.s (omega (arith, h, size)) in
+          rw length-take (omega (arith, r, c.requires.y_len.1));
     })
 
 -- the partner, in the front of the array
@@ -92,7 +94,7 @@ module _ (c : After-combine) where
   unfolding partner_strip
   solved =
       (rw (fields c.p.view_is) at c.combine.ensures)
-      ∙ ap₂ (λ (n m : ℕ). combination_of (take n c.args.line.c) c.args.r.now 0 c.args.p.s m) (ap length c.requires.nodes_rising.1)
+      ∙ ap₂ (λ (n m : ℕ). combination_of (take n c.args.line.c) c.args.r.now 0 c.args.p.s m) (c.requires.nodes_rising.1.count)
       (length-take-le _ _ (search rules))
 
   written : length c.combine.new.dst ≡ c.args.p.s
@@ -108,7 +110,7 @@ add_multiple-requires c =
     let acc = is_accepted c.p.view_is c.p.invariant in
     let e = rw (fields c.p.view_is) at (slice_bounds-add_multiple-end c) in
     rw (fields c.p.view_is)
-    (omega (arith, e, inside (goal.at.add_multiple-requires c).Start acc, c.requires.e_in_bounds.1))
+    (omega (arith, e, inside (goal.at.add_multiple-requires c).Start acc, c.requires.y_len.0))
 
 pub returns : goal.returns
 unfolding completed_strip
@@ -117,7 +119,7 @@ returns c =
     let p = c.args.p in
     let nodes = c.args.nodes.now in
     let w = (goal.at.returns c).After-combine in
-    let z = get_or c.args.halves.now c.args.e 0 in
+    let z = get_or c.args.h.now.halves c.args.e 0 in
     let factor = (rw (fields c.p-2.view_is) at c.factor-f.ensures)
     ∙ ap₂ (λ (i l : ℕ). number (factor_at p i (l % p.a))) (ap (λ (q : Place). q.row.0) c.joined_place-q.ensures)
     (ap (λ (q : Place). q.node.0) c.joined_place-q.ensures) in

@@ -1,15 +1,14 @@
 -- `reading::read_from` meets its contract: how the elimination of the small system ends decides, and its inverse gives the
 -- data.
 use Rattle.std.specs.Prelude.{Ok}
-use mathlib.Core.Path.{◌≡◌, sym, ap, ◌∙◌}
+use mathlib.Core.Path.{sym, ap, ◌∙◌}
 use mathlib.Core.List.{List}
 use Prim.Native.Nat.{ℕ}
 use native.Mathlib.Omega.{arith}
 use borrow.Author.Rules.{rules}
-use lib.Seq.{length-take-le}
 use Rattle.document.specs.Accepted.{Accepted}
 use Rattle.half_pairs.proofs.System.{stuck_ambiguous, regular_inverse, regular_clear}
-use Rattle.half_pairs.proofs.System.{count_few, halves_front, halves_fit, system_end_lem}
+use Rattle.half_pairs.proofs.System.{count_few, system_end_lem}
 use Rattle.reading.specs.Steps.{reading_answer}
 use Rattle.reading.proofs.Data.{data_by_lem}
 use Rattle.reading.proofs.read_from.Goals as goal
@@ -18,15 +17,6 @@ pub invert-requires : goal.invert-requires
 invert-requires c =
     let few = count_few c.of_nodes-h.ensures (search rules) c.requires.nodes_rising in
     (few, few)
-
-pub slice_bounds-halves-end : goal.slice_bounds-halves-end
-slice_bounds-halves-end c = halves_fit c.of_nodes-h.ensures
-
-pub slice_bounds-put_data-end-3 : goal.slice_bounds-put_data-end-3
-slice_bounds-put_data-end-3 c = sym (length-take-le _ _ (halves_fit c.of_nodes-h.ensures))
-
-pub put_data-requires-clause-table_value : goal.put_data-requires-clause-table_value
-put_data-requires-clause-table_value c = let h = c.of_nodes-h.ensures in (h.table, halves_front h)
 
 pub returns-in_default : goal.returns-in_default
 unfolding reading_answer
