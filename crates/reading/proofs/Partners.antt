@@ -1,6 +1,6 @@
 -- The partners of the half pairs: how long their strips are, where those of a row lie, how they are completed, and that they
 -- are no more than all strips.
-use mathlib.Core.Path.{◌≡◌, refl}
+use mathlib.Core.Path.{◌≡◌, refl, sym, ap, ◌∙◌}
 use mathlib.Core.Bool.{not}
 use mathlib.Core.List.{List}
 use Prim.Native.Nat.{ℕ, ◌+◌, ◌*◌, ◌≤◌, ◌<◌}
@@ -8,7 +8,8 @@ use native.Mathlib.Nat.{add-mul, mul_assoc, mul-le-mul_right}
 use native.Mathlib.Numerals.{add-one}
 use native.Mathlib.Omega.{arith}
 use lib.Arith.{digits_lt}
-use lib.ListN.{length}
+use lib.ListN.{length, get_or}
+use lib.Seq.{get_or-take}
 use Rattle.lists.proofs.Listed.{listed_length}
 use Rattle.lists.proofs.Rising.{rising_length}
 use Rattle.ksets.specs.Sets.{Rising}
@@ -18,7 +19,9 @@ use Rattle.square.specs.Steps.{line_at}
 use Rattle.document.specs.declared.Profile.{Profile}
 use Rattle.document.specs.Profile.{Accepted}
 use Rattle.document.proofs.Bounds.{room}
-use Rattle.half_pairs.specs.HalfPairs.{is_named, partner_at, half_pairs, half_pair_at}
+use Rattle.half_pairs.specs.declared.HalfPairs.{HalfPairs}
+use Rattle.half_pairs.specs.HalfPairs.{is_named, partner_at, half_pairs, half_pair_at, HalfPairsOf}
+use Rattle.half_pairs.proofs.System.{halves_front}
 use Rattle.half_pairs.proofs.Symbols.{U, half_each}
 use Rattle.reading.specs.Steps.{partner_strip, completed_strip, completed}
 
@@ -49,8 +52,17 @@ module _ (p : Profile) (acc : Accepted p) (nodes : List ℕ) (rises : Rising p.n
   half_below e h = (half_each p nodes acc rises e h).1
 
 -- the partners' strips are no more than all strips
-pub halves_fit : (p : Profile) (nodes : List ℕ) → length (half_pairs p nodes) * p.s ≤ p.k * p.a * p.s
+halves_fit : (p : Profile) (nodes : List ℕ) → length (half_pairs p nodes) * p.s ≤ p.k * p.a * p.s
 unfolding half_pairs
 halves_fit p nodes =
     mul-le-mul_right p.s
     (rising_length (λ z. not (is_named p.k nodes (partner_at p nodes z).node.0)) (p.k * p.a))
+
+-- ---- as the code has the half pairs
+module _ {p : Profile} {nodes : List ℕ} {h : HalfPairs} (made : HalfPairsOf p nodes h) where
+  pub half_entry : (e : ℕ) → e < h.count → get_or h.halves e 0 ≡ half_pair_at p nodes e
+  half_entry e l =
+      sym (get_or-take h.count h.halves e 0 l) ∙ ap (λ (xs : List ℕ). get_or xs e 0) (halves_front made)
+
+  pub halves_room : h.count * p.s ≤ p.k * p.a * p.s
+  halves_room = rw made.count (halves_fit p nodes)

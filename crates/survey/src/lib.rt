@@ -3,7 +3,7 @@
 
 ghost use Rattle.std.specs.Prelude.{◌≡◌, ◌+◌, ◌≤◌, ◌<◌, length};
 ghost use Rattle.ksets.specs.Sets.{sets, set_at, Rising};
-ghost use Rattle.document.specs.Profile.{max_nodes, Accepted};
+ghost use Rattle.document.specs.Profile.{max_nodes};
 ghost use Rattle.document.specs.Reading.{ambiguous};
 ghost use Rattle.document.specs.Survey.{result_of, survey_with, survey_of};
 ghost use Rattle.survey.specs.Steps.{Found};
@@ -12,7 +12,7 @@ use document::{Numbers, Profile, Refusal, Surveyed};
 
 // Whether a set fails: whether the system of its half pairs is singular.
 fn fails(p: Profile, set: &[u8]) -> bool
-    requires { Accepted p × Rising p.n p.k set.now }
+    requires { Rising p.n p.k set.now }
     ensures { result ≡ ambiguous p set.now }
 {
     let h = half_pairs::of_nodes(p, set);
@@ -32,31 +32,30 @@ fn go_on(set: &mut [u8], n: usize, at: usize, end: usize)
     }
 }
 
-// The first failing position from `start` on, before `end`; `end` if there is none. The set goes from position to
-// position and stays at the failing one.
-fn look(p: Profile, set: &mut [u8], start: usize, end: usize) -> usize
-    requires accepted { Accepted p × (length set.old ≡ p.k) }
+// The first failing position from `start` on, before `end`, if there is one. The set goes from position to position and
+// stays at the failing one.
+fn look(p: Profile, set: &mut [u8], start: usize, end: usize) -> Option<usize>
+    requires set_len { length set.old ≡ p.k }
     requires start_lt_end { (start < end) × (end ≤ sets p.n p.k) × (set.old ≡ set_at 0 p.n p.k start) }
     ensures { Found p start end result set.new }
 {
-    let mut at = start;
-    while at < end {
+    let n = p.n;
+    for at in start..end {
         if fails(p, set) {
-            return at;
+            return Some(at);
         }
-        go_on(set, p.n, at, end);
-        at += 1;
+        go_on(set, n, at, end);
     }
-    end
+    None
 }
 
 // The same with the set at `start` written first.
-fn first_failing(p: Profile, set: &mut [u8], start: usize, end: usize) -> usize
-    requires { Accepted p × (length set.old ≡ p.k) × (start ≤ end) × (end ≤ sets p.n p.k) }
+fn first_failing(p: Profile, set: &mut [u8], start: usize, end: usize) -> Option<usize>
+    requires { (length set.old ≡ p.k) × (start ≤ end) × (end ≤ sets p.n p.k) }
     ensures { Found p start end result set.new }
 {
     if start == end {
-        return end;
+        return None;
     }
     ksets::unrank(set, p.n, start);
     look(p, set, start, end)
@@ -70,16 +69,15 @@ fn survey_from(
     total: usize,
     set: &mut [u8],
 ) -> Result<Surveyed, Refusal>
-    requires { Accepted p × (total ≡ sets p.n p.k) × (start ≤ total) × (length set.old ≡ p.k) }
+    requires { (total ≡ sets p.n p.k) × (start ≤ total) × (length set.old ≡ p.k) }
     ensures { (result, set.new) ≡ result_of p start most set.old }
 {
     let k = p.k;
     let looked = most.min(total - start);
     let end = start + looked;
     let mut current = [0u8; Profile::MAX_NODES];
-    let found = first_failing(p, &mut current[..k], start, end);
-    if found < end {
-        strips::copy(set, &current, 0);
+    if let Some(found) = first_failing(p, &mut current[..k], start, end) {
+        set.copy_from_slice(&current[..k]);
         let passed = found - start;
         return Ok(Surveyed::Failing(found, passed + 1));
     }
@@ -91,7 +89,6 @@ fn survey_from(
 
 // Surveys with an accepted profile.
 fn survey_with(p: Profile, start: usize, most: usize, set: &mut [u8]) -> Result<Surveyed, Refusal>
-    requires { Accepted p }
     ensures { (result, set.new) ≡ survey_with p start most set.old }
 {
     let total = ksets::count(p.n, p.k);

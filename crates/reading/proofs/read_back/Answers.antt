@@ -1,11 +1,8 @@
 -- `reading::read_back` meets its contract: the head of a call.
 use mathlib.Core.Path.{sym, ◌∙◌}
 use Rattle.document.specs.Reading.{read_of}
-use Rattle.document.proofs.Accepts.{accepted, refused_exit, passed}
+use Rattle.document.proofs.Accepts.{refused_exit, passed}
 use Rattle.reading.proofs.read_back.Goals as goal
-
-pub read_with-requires : goal.read_with-requires
-read_with-requires c = accepted _ (sym c.in_ok-profile.ensures)
 
 pub returns-in_err-profile : goal.returns-in_err-profile
 unfolding read_of

@@ -1,51 +1,38 @@
 -- `reading::read_from` meets its contract: how the elimination of the small system ends decides, and its inverse gives the
 -- data.
 use Rattle.std.specs.Prelude.{Ok}
-use mathlib.Core.Path.{◌≡◌, sym, ap, ◌∙◌}
+use mathlib.Core.Path.{sym, ap, ◌∙◌}
 use mathlib.Core.List.{List}
 use Prim.Native.Nat.{ℕ}
 use native.Mathlib.Omega.{arith}
-use lib.Seq.{length-take-le}
+use borrow.Author.Rules.{rules}
+use Rattle.document.specs.Accepted.{Accepted}
 use Rattle.half_pairs.proofs.System.{stuck_ambiguous, regular_inverse, regular_clear}
-use Rattle.half_pairs.proofs.System.{count_few, halves_front, halves_fit, system_end_lem}
+use Rattle.half_pairs.proofs.System.{count_few, system_end_lem}
 use Rattle.reading.specs.Steps.{reading_answer}
 use Rattle.reading.proofs.Data.{data_by_lem}
 use Rattle.reading.proofs.read_from.Goals as goal
 
 pub invert-requires : goal.invert-requires
 invert-requires c =
-    let few = count_few c.of_nodes-h.ensures c.requires.accepted.0 c.requires.accepted.1 in
+    let few = count_few c.of_nodes-h.ensures (search rules) c.requires.nodes_rising in
     (few, few)
-
-pub slice_bounds-halves-end : goal.slice_bounds-halves-end
-slice_bounds-halves-end c = halves_fit c.of_nodes-h.ensures
-
-pub slice_bounds-put_data-end-3 : goal.slice_bounds-put_data-end-3
-slice_bounds-put_data-end-3 c = sym (length-take-le _ _ (halves_fit c.of_nodes-h.ensures))
-
-pub put_data-requires : goal.put_data-requires
-put_data-requires c =
-    let h = c.of_nodes-h.ensures in
-    record {
-      accepted = (c.requires.accepted.0, c.requires.accepted.1, h.positions);
-      table_value = (h.table, halves_front h);
-      columns_len = (c.requires.columns_len.0, c.requires.columns_len.1);
-    }
 
 pub returns-in_default : goal.returns-in_default
 unfolding reading_answer
 returns-in_default c =
     let e = sym (system_end_lem c.of_nodes-h.ensures c.small_system-s.ensures) ∙ sym c.in_default.ensures in
-    rw (stuck_ambiguous c.args.p c.args.nodes.now c.requires.accepted.0 c.requires.accepted.1 e)
+    rw (stuck_ambiguous c.args.p c.args.nodes.now (search rules) c.requires.nodes_rising e)
 
 pub returns : goal.returns
 unfolding reading_answer
 returns c =
     let a = c.args in
+    let acc : Accepted a.p = search rules in
     let e = sym (system_end_lem c.of_nodes-h.ensures c.small_system-s.ensures) ∙ sym c.in-Ok.ensures in
-    rw (regular_clear a.p a.nodes.now c.requires.accepted.0 c.requires.accepted.1 e)
+    rw (regular_clear a.p a.nodes.now acc c.requires.nodes_rising e)
     (ap (λ (y : List ℕ). (Ok 0, y))
     (c.put_data.ensures
-    ∙ data_by_lem a.p c.requires.accepted.0 a.nodes.now c.requires.accepted.1 _
-    (regular_inverse a.p a.nodes.now c.requires.accepted.0 c.requires.accepted.1 e) a.columns.now c.requires.columns_len.0
+    ∙ data_by_lem a.p acc a.nodes.now c.requires.nodes_rising _
+    (regular_inverse a.p a.nodes.now acc c.requires.nodes_rising e) a.columns.now c.requires.columns_len.0
     (λ e l. omega (arith, c.type_inv.columns e))))

@@ -1,5 +1,6 @@
 -- `survey::fails` meets its contract: a set is ambiguous where the system of its half pairs has a column without a pivot.
 use Rattle.std.proofs.Common.{◌≡◌, ◌∙◌, Bool, refl, ap, is_some, is_err, option_map}
+use borrow.Author.Rules.{rules}
 use Rattle.std.specs.Prelude.{Ok, Err}
 use Rattle.std.specs.Result.{result_err}
 use Rattle.square.specs.Elimination.{Eliminated}
@@ -16,11 +17,11 @@ stuck_err (Err e) = refl
 
 pub judge-requires : goal.judge-requires
 judge-requires c =
-    let few = count_few c.of_nodes-h.ensures c.requires.0 c.requires.1 in
+    let few = count_few c.of_nodes-h.ensures (search rules) c.requires in
     (few, few)
 
 pub returns : goal.returns
 returns c =
     c.is_some.ensures ∙ ap is_some c.judge.ensures
     ∙ ap stuck (system_end_lem c.of_nodes-h.ensures c.small_system-lines.ensures) ∙ stuck_err _
-    ∙ end_ambiguous c.args.p c.args.set.now c.requires.0 c.requires.1
+    ∙ end_ambiguous c.args.p c.args.set.now (search rules) c.requires

@@ -1,5 +1,6 @@
 -- `survey::look` meets its contract. The invariant: the set is that at the position, and the search from there on finds
 -- what the search from the start finds.
+use Rattle.std.proofs.lemmas.Option.{none-some, same_Some}
 use mathlib.Core.Path.{◌≡◌, refl, sym, ap, ◌∙◌}
 use Prim.Native.Nat.{ℕ, ◌+◌, ◌<◌}
 use native.Mathlib.Omega.{arith}
@@ -9,13 +10,13 @@ use Rattle.ksets.proofs.Ranked.{set_rising}
 use Rattle.document.specs.declared.Profile.{Profile}
 use Rattle.document.specs.Reading.{ambiguous}
 use Rattle.document.specs.Survey.{fails_at}
+use Rattle.document.proofs.Fields.{fields, is_accepted}
 use Rattle.document.proofs.Surveys.{range_none, range_here, range_later}
-use Rattle.survey.proofs.look.Goals.{After-fails, In-loop-at, Start}
+use Rattle.survey.proofs.look.Goals.{After-fails, In-loop-at}
 use Rattle.survey.proofs.look.Goals as goal
 
 pub loop-at-init : goal.loop-at-init
-loop-at-init c =
-    (omega (arith, c.requires.start_lt_end.0), c.requires.accepted.1, λ _. c.requires.start_lt_end.2, refl)
+loop-at-init c = record { size = c.requires.set_len; here = λ _. c.requires.start_lt_end.2; rest = refl }
 
 -- in a turn
 module _ (c : In-loop-at) where
@@ -29,65 +30,57 @@ module _ (c : In-loop-at) where
   inside = omega (arith, c.loop-at-test.true, c.requires.start_lt_end.1)
 
   here : c.loop-at.set ≡ set_at 0 p.n p.k at
-  here = c.loop-at.invariant.2 c.loop-at-test.true
+  here = c.loop-at.invariant.here c.loop-at-test.true
 
   size : length c.loop-at.set ≡ p.k
-  size = c.loop-at.invariant.1
+  size = c.loop-at.invariant.size
 
 pub fails-requires : goal.fails-requires
-fails-requires c =
-    (c.requires.accepted.0, rw (here c) (set_rising _ _ _ (inside c)))
+fails-requires c = rw (here c) (set_rising _ _ _ (inside c))
 
 -- the verdict on the set is that on its position
-decided : (c : After-fails)
-    →
-    fails_at ((c.args.p)) ((c.loop-at.at)) ≡ c.fails.result
+decided : (c : After-fails) → fails_at c.args.p c.loop-at.at ≡ c.fails.result
 unfolding fails_at
-decided c = sym (c.fails.ensures ∙ ap (ambiguous ((c.args.p))) ((c.loop-at.invariant.2 c.loop-at-test.true)))
-
-pub shape_of-set-then-fails : goal.shape_of-set-then-fails
-shape_of-set-then-fails c =
-    size (goal.at.shape_of-set-then-fails c).In-loop-at ∙ sym c.requires.accepted.1
+decided c = sym (c.fails.ensures ∙ ap (ambiguous c.args.p) (c.loop-at.invariant.here c.loop-at-test.true))
 
 pub returns-then-fails : goal.returns-then-fails
 returns-then-fails c =
+    let w = (goal.at.returns-then-fails c).In-loop-at in
+    let yes = decided (goal.at.returns-then-fails c).After-fails ∙ c.if-fails.true in
+    let first = sym (c.loop-at.invariant.rest ∙ range_here _ _ _ c.loop-at-test.true yes) in
     record {
-      first = sym (c.loop-at.invariant.3
-          ∙ range_here _ _ _ c.loop-at-test.true (decided (goal.at.returns-then-fails c).After-fails ∙ c.if-fails.true));
-      set = λ _. here (goal.at.returns-then-fails c).In-loop-at;
-      size = size (goal.at.returns-then-fails c).In-loop-at;
+      some = λ pos e. rw (← same_Some _ _ e) (first, c.loop-at-test.true);
+      none = λ e. absurd (none-some _ (sym e));
+      set = λ pos e. rw (← same_Some _ _ e) (here w);
+      size = size w;
     }
 
 pub go_on-requires : goal.go_on-requires
 go_on-requires c =
-    record {
-      n_le_max_nodes = (c.requires.accepted.0.shape.few_nodes, rw (size (goal.at.go_on-requires c).In-loop-at) c.requires.start_lt_end.1, c.loop-at-test.true);
-      set_value = rw (size (goal.at.go_on-requires c).In-loop-at) (here (goal.at.go_on-requires c).In-loop-at);
-    }
-
-pub overflow_add-at : goal.overflow_add-at
-overflow_add-at c =
-    omega (arith, c.loop-at-test.true, c.ranges.end)
-
-pub loop-at-smaller : goal.loop-at-smaller
-loop-at-smaller c = omega (arith, c.loop-at-test.true)
+    let w = (goal.at.go_on-requires c).In-loop-at in
+    let acc = is_accepted c.p.view_is c.p.invariant in
+    rw (fields c.p.view_is) (record {
+      n_le_max_nodes = (acc.shape.few_nodes, rw (size w) c.requires.start_lt_end.1, c.loop-at-test.true);
+      set_value = rw (size w) (here w);
+    })
 
 pub loop-at-preserved : goal.loop-at-preserved
-loop-at-preserved c = (
-  omega (arith, c.loop-at-test.true),
-  c.go_on.auto.set ∙ size (goal.at.loop-at-preserved c).In-loop-at,
-  λ h. c.go_on.ensures h ∙ ap (λ (k : ℕ). set_at 0 (p (goal.at.loop-at-preserved c).In-loop-at).n k (at (goal.at.loop-at-preserved c).In-loop-at + 1)) (size (goal.at.loop-at-preserved c).In-loop-at),
-  c.loop-at.invariant.3 ∙ range_later _ _ _ c.loop-at-test.true (decided (goal.at.loop-at-preserved c).After-fails ∙ c.if-fails.false),
-)
-
-pub shape_of-set : goal.shape_of-set
-shape_of-set c = c.loop-at.invariant.1 ∙ sym c.requires.accepted.1
+loop-at-preserved c =
+    let w = (goal.at.loop-at-preserved c).In-loop-at in
+    let no = decided (goal.at.loop-at-preserved c).After-fails ∙ c.if-fails.false in
+    record {
+      size = c.go_on.auto.set ∙ size w;
+      here = λ h. (rw (fields c.p.view_is) at c.go_on.ensures) h
+          ∙ ap (λ (k : ℕ). set_at 0 (p w).n k (at w + 1)) (size w);
+      rest = c.loop-at.invariant.rest ∙ range_later _ _ _ c.loop-at-test.true no;
+    }
 
 pub returns : goal.returns
 returns c =
     let l = c.loop-at in
     record {
-      first = sym (l.invariant.3 ∙ range_none _ _ _ (omega (arith, l.invariant.0, c.loop-at-test.false)));
-      set = λ h. absurd (omega (arith, h));
-      size = l.invariant.1;
+      some = λ pos e. absurd (none-some _ e);
+      none = λ _. sym (l.invariant.rest ∙ range_none _ _ _ (omega arith));
+      set = λ pos e. absurd (none-some _ e);
+      size = l.invariant.size;
     }

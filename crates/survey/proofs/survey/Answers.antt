@@ -1,11 +1,8 @@
 -- `survey::survey` meets its contract: the head of a call.
 use mathlib.Core.Path.{sym, ◌∙◌}
 use Rattle.document.specs.Survey.{survey_of}
-use Rattle.document.proofs.Accepts.{accepted, refused_exit, passed}
+use Rattle.document.proofs.Accepts.{refused_exit, passed}
 use Rattle.survey.proofs.survey.Goals as goal
-
-pub survey_with-requires : goal.survey_with-requires
-survey_with-requires c = accepted _ (sym c.in_ok-profile.ensures)
 
 pub returns-in_err-profile : goal.returns-in_err-profile
 unfolding survey_of
