@@ -3,8 +3,8 @@
 #![tactic(auto)]
 
 ghost use Rattle.std.specs.Prelude.{◌≡◌, ◌≢◌, [], ◌∷◌, ℕ, ◌+◌, ◌*◌, ◌^◌, ◌<◌, ◌-◌, ◌%◌, ◌≤◌, length, slice_index};
+ghost use Rattle.lists.specs.Positions.{position_in};
 ghost use Rattle.document.specs.ByteField.{number};
-ghost use Rattle.document.specs.Profile.{Accepted};
 ghost use Rattle.document.specs.Plan.{walk_of, chosen_over, nodes_over, planned};
 ghost use Rattle.document.specs.Rebuild.{given_at, rebuilt_of, rebuild_with, rebuild_of};
 ghost use Rattle.plan.specs.Steps.{places_at};
@@ -26,7 +26,7 @@ struct Sources<'a> {
     src: &'a [u8],
     first: usize,
     stride: usize,
-    ghost lost: { Accepted p × (f.0 < p.n) },
+    ghost lost: { f.0 < p.n },
     ghost fit: { StripsFit p f src.now first stride },
     ghost bytes: { (e : ℕ) → slice_index src.now e < 2 ^ 8 },
 }
@@ -74,19 +74,20 @@ impl Sources<'_> {
 
 // The determinants at the chosen nodes. They do not depend on the row wanted: computed once, they serve every row.
 fn pair_determinants(p: Profile, f: Node, nodes: &[u8], out: &mut [u8])
-    requires { Accepted p × (length out.old ≡ length nodes.now) }
+    requires { length out.old ≡ length nodes.now }
     ensures { out.new ≡ determinants_of p f nodes.now }
 {
-    let c = f.0 % p.a;
+    let a = p.a;
+    let c = f.0 % a;
     for (q, node) in nodes.iter().enumerate() {
-        out[q] = coupling::determinant(p, Row(c), usize::from(*node) % p.a);
+        out[q] = coupling::determinant(p, Row(c), usize::from(*node) % a);
     }
 }
 
 // By what row c of node i of f's group is multiplied, where c is f's local column and i is not c: the inverse of the
 // factor there, which is not 0 off the diagonal.
 fn own_scale(p: Profile, f: Node, i: usize) -> u8
-    requires { Accepted p × (i < p.a) × (i ≢ f.0 % p.a) }
+    requires { (i < p.a) × (i ≢ f.0 % p.a) }
     ensures { result ≡ number (own_scale_at p f i) }
 {
     let c = f.0 % p.a;
@@ -95,7 +96,7 @@ fn own_scale(p: Profile, f: Node, i: usize) -> u8
 
 // By what row c is multiplied for row i of the lost column.
 fn scale(p: Profile, f: Node, i: usize) -> u8
-    requires { Accepted p × (i < p.a) }
+    requires { i < p.a }
     ensures { result ≡ number (scale_at p f i) }
 {
     let c = f.0 % p.a;
@@ -116,6 +117,14 @@ fn divided_weights(nodes: &[u8], denominators: &[u8], at: u8, determinants: &[u8
     gf256::divide_all(out, determinants);
 }
 
+// Where node j stands in a list; its length if it does not.
+fn place_in(nodes: &[u8], j: usize) -> usize
+    ensures { result ≡ position_in nodes.now j }
+{
+    let found = nodes.iter().position(|x| usize::from(*x) == j);
+    found.unwrap_or(nodes.len())
+}
+
 // What each row of the lost node f's column is made of: the folded strips, of which the A-1 of f's group stand first, the
 // nodes that they were folded for, and what does not depend on the row.
 #[derive(Drop)]
@@ -127,7 +136,7 @@ struct Rows<'a> {
     chosen: &'a [u8],
     denominators: &'a [u8],
     determinants: &'a [u8],
-    ghost lost: { Accepted p × (f.0 < p.n) },
+    ghost lost: { f.0 < p.n },
     ghost long: { (p.a - 1) * p.s + p.k * p.s ≤ length folded.now },
     ghost nodes: { NodesOf p f own.now chosen.now },
     ghost divisors: { (denominators.now ≡ denominators_of chosen.now)
@@ -181,19 +190,19 @@ impl Rows<'_> {
         let p = self.p;
         let f = self.f;
         let own = self.own;
+        let k = p.k;
         let mut coefficients = [0u8; Profile::MAX_NODES];
-        self.put_coefficients(i, &mut coefficients[..p.k]);
+        self.put_coefficients(i, &mut coefficients[..k]);
         // Node i of the group. The lost node, which is not in `own`, gives no strip: for its row the place is not read.
         let member = f.0 / p.a * p.a + i;
-        let found = own.iter().position(|j| usize::from(*j) == member);
-        let at = found.unwrap_or(own.len());
-        self.sum(i, &coefficients[..p.k], at, dst);
+        let at = place_in(own, member);
+        self.sum(i, &coefficients[..k], at, dst);
     }
 }
 
 // The rows of the lost column. What does not depend on the row is computed once.
 fn put_rows(column: &mut [u8], folded: &[u8], p: Profile, f: Node, own: &[u8], chosen: &[u8])
-    requires accepted { Accepted p × (f.0 < p.n) × NodesOf p f own.now chosen.now }
+    requires nodes { (f.0 < p.n) × NodesOf p f own.now chosen.now }
     requires column_len { (length column.old ≡ p.a * p.s) × ((p.a - 1) * p.s + p.k * p.s ≤ length folded.now) }
     ensures { column.new ≡ rows_of p f own.now chosen.now folded.now }
 {
@@ -219,7 +228,7 @@ fn put_rows(column: &mut [u8], folded: &[u8], p: Profile, f: Node, own: &[u8], c
 
 // The rows of the lost column, from the strips folded for the plan's nodes: the A-1 of f's group, then the chosen ones.
 fn rebuild_rows(column: &mut [u8], folded: &[u8], p: Profile, f: Node, nodes: &[u8])
-    requires accepted { Accepted p × (f.0 < p.n) × (nodes.now ≡ nodes_over p.k (walk_of p f)) }
+    requires nodes { (f.0 < p.n) × (nodes.now ≡ nodes_over p.k (walk_of p f)) }
     requires column_len { (length column.old ≡ p.a * p.s) × (length folded.now ≡ length nodes.now * p.s) }
     ensures { column.new
         ≡ rows_of p f (walk_of p f).own (chosen_over p.k (walk_of p f)) folded.now }
@@ -237,7 +246,7 @@ pub fn rebuild_column(
     p: Profile,
     f: Node,
 )
-    requires accepted { Accepted p × (f.0 < p.n) × (length column.old ≡ p.a * p.s) }
+    requires column_len { (f.0 < p.n) × (length column.old ≡ p.a * p.s) }
     requires strips_fit { StripsFit p f src.now first stride }
     ensures { column.new ≡ rebuilt_of p f src.now first stride }
 {
@@ -264,7 +273,6 @@ fn rebuild_with(
     bundle: &[u8],
     column: &mut [u8],
 ) -> Result<usize, Refusal>
-    requires { Accepted p }
     ensures { (result, column.new) ≡ rebuild_with p f r bundle.now column.old }
 {
     if f.0 >= p.n {

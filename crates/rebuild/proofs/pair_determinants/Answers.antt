@@ -6,6 +6,7 @@ use lib.ListN.{get_or}
 use Rattle.lists.specs.Listed.{listed}
 use Rattle.lists.proofs.Written.{written_none, written_all, written_more}
 use Rattle.document.specs.ByteField.{number}
+use Rattle.document.proofs.Fields.{fields}
 use Rattle.rebuild.specs.Rows.{determinant_at, determinants_of}
 use Rattle.rebuild.proofs.pair_determinants.Goals as goal
 
@@ -22,5 +23,5 @@ unfolding determinants_of
 returns c =
     let l = c.loop-q in
     let p = c.args.p in
-    written_all _ l.q c.args.out.now l.out l.invariant (omega arith)
-    ∙ ap (λ n. listed n (λ m. number (determinant_at p c.args.f (get_or c.args.nodes.now m 0 % p.a)))) c.requires.1
+    (rw (fields c.p.view_is) at (written_all _ l.q c.args.out.now l.out l.invariant (omega arith)))
+    ∙ ap (λ n. listed n (λ m. number (determinant_at p c.args.f (get_or c.args.nodes.now m 0 % p.a)))) c.requires

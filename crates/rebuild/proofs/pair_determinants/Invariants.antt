@@ -9,4 +9,4 @@ use Rattle.rebuild.proofs.pair_determinants.Given as goal
 
 abbrev pub invariant-loop-q : goal.invariant-loop-q
 invariant-loop-q l =
-    Written (λ m. number (pair bytes (factor_at l.p) l.c (get_or l.nodes m 0 % l.p.a))) l.q l.initial.out l.out
+    Written (λ m. number (pair bytes (factor_at l.p) l.c (get_or l.nodes m 0 % l.a))) l.q l.initial.out l.out

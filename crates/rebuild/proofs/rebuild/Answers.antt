@@ -1,11 +1,8 @@
 -- `rebuild::rebuild` meets its contract: the head of a call.
 use mathlib.Core.Path.{sym, ◌∙◌}
 use Rattle.document.specs.Rebuild.{rebuild_of}
-use Rattle.document.proofs.Accepts.{accepted, refused_exit, passed}
+use Rattle.document.proofs.Accepts.{refused_exit, passed}
 use Rattle.rebuild.proofs.rebuild.Goals as goal
-
-pub rebuild_with-requires : goal.rebuild_with-requires
-rebuild_with-requires c = accepted _ (sym c.in_ok-profile.ensures)
 
 pub returns-in_err-profile : goal.returns-in_err-profile
 unfolding rebuild_of

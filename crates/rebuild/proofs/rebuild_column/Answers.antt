@@ -17,10 +17,16 @@ use Rattle.rebuild.specs.Column.{rows_of}
 use Rattle.rebuild.proofs.Folded.{folded_length}
 use Rattle.rebuild.proofs.Column.{column_rebuilt}
 use Rattle.rebuild.proofs.rebuild_column.Goals.{After-fold, After-list_nodes-count, Start}
+use borrow.Author.Rules.{rules}
+use Rattle.document.specs.Profile.{Accepted}
+use Rattle.document.proofs.Fields.{fields}
 use Rattle.rebuild.proofs.rebuild_column.Goals as goal
 
 -- past the nodes' listing
 module _ (c : After-list_nodes-count) where
+  accepted : Accepted c.args.p
+  accepted = search rules
+
   abbrev count : ℕ
   count = c.list_nodes-count.result
 
@@ -40,20 +46,24 @@ module _ (c : After-list_nodes-count) where
   strips_fit : count * c.args.p.s ≤ 12288
   strips_fit =
       let p = c.args.p in
-      let acc = c.requires.accepted.0 in
+      let acc = accepted in
       let size : count ≡ p.a - 1 + p.k =
-      (wrote_front c.list_nodes-count.ensures).0 ∙ nodes_count p acc c.args.f c.requires.accepted.1 in
+      (wrote_front c.list_nodes-count.ensures).0 ∙ nodes_count p acc c.args.f c.requires.column_len.0 in
       mul-le-mul {n₁ = count} {m₁ = p.s} {n₂ = 24} {m₂ = 512}
       (omega (arith, size, acc.shape.enough_parity, acc.shape.few_nodes, acc.shape.some_parity)) acc.short
 
 pub overflow_mul-size : goal.overflow_mul-size
-overflow_mul-size c = omega (arith, strips_fit (goal.at.overflow_mul-size c).After-list_nodes-count)
+overflow_mul-size c =
+    rw (fields c.p.view_is) (omega (arith, strips_fit (goal.at.overflow_mul-size c).After-list_nodes-count))
 
 pub slice_bounds-folded-end : goal.slice_bounds-folded-end
-slice_bounds-folded-end c = strips_fit (goal.at.slice_bounds-folded-end c).After-list_nodes-count
+slice_bounds-folded-end c =
+    rw (fields c.p.view_is) (strips_fit (goal.at.slice_bounds-folded-end c).After-list_nodes-count)
 
 pub slice_bounds-fold-end : goal.slice_bounds-fold-end
-slice_bounds-fold-end c = sym (length-take-le _ _ (strips_fit (goal.at.slice_bounds-fold-end c).After-list_nodes-count))
+slice_bounds-fold-end c =
+    rw (fields c.p.view_is)
+    (sym (length-take-le _ _ (strips_fit (goal.at.slice_bounds-fold-end c).After-list_nodes-count)))
 
 pub slice_bounds-nodes-end : goal.slice_bounds-nodes-end
 slice_bounds-nodes-end c = nodes_fit (goal.at.slice_bounds-nodes-end c).After-list_nodes-count
@@ -65,7 +75,8 @@ pub fold-requires : goal.fold-requires
 fold-requires c =
     let listed = (goal.at.fold-requires c).After-list_nodes-count in (
       plan_nodes_lem listed,
-      length-take-le _ _ (strips_fit listed) ∙ ap (λ (m : ℕ). m * c.args.p.s) (sym (nodes_length listed)),
+      rw (fields c.p.view_is)
+          (length-take-le _ _ (strips_fit listed) ∙ ap (λ (m : ℕ). m * c.args.p.s) (sym (nodes_length listed))),
     )
 
 -- past the folding, with what was known of the nodes before
@@ -82,12 +93,13 @@ module _ (c : After-fold)
 
 pub slice_bounds-folded-end-2 : goal.slice_bounds-folded-end-2
 slice_bounds-folded-end-2 c =
-    let s = goal.at.slice_bounds-folded-end-2 c in held_fits s.After-fold (nodes_length s.After-list_nodes-count) _
+    let s = goal.at.slice_bounds-folded-end-2 c in
+    rw (fields c.p.view_is) (held_fits s.After-fold (nodes_length s.After-list_nodes-count) _)
 
 pub slice_bounds-rebuild_rows-end : goal.slice_bounds-rebuild_rows-end
 slice_bounds-rebuild_rows-end c =
     let s = goal.at.slice_bounds-rebuild_rows-end c in
-    sym (length-take-le _ _ (held_fits s.After-fold (nodes_length s.After-list_nodes-count) _))
+    rw (fields c.p.view_is) (sym (length-take-le _ _ (held_fits s.After-fold (nodes_length s.After-list_nodes-count) _)))
 
 pub slice_bounds-nodes-end-2 : goal.slice_bounds-nodes-end-2
 slice_bounds-nodes-end-2 c = nodes_fit (goal.at.slice_bounds-nodes-end-2 c).After-list_nodes-count
@@ -100,10 +112,11 @@ rebuild_rows-requires c =
     let s = goal.at.rebuild_rows-requires c in
     let size = nodes_length s.After-list_nodes-count in
     record {
-      accepted = (c.requires.accepted.0, c.requires.accepted.1, plan_nodes_lem s.After-list_nodes-count);
+      nodes = (c.requires.column_len.0, plan_nodes_lem s.After-list_nodes-count);
       column_len = (
-        c.requires.accepted.2,
-        length-take-le _ _ (held_fits s.After-fold size _) ∙ ap (λ (m : ℕ). m * c.args.p.s) (sym size),
+        c.requires.column_len.1,
+        rw (fields c.p.view_is)
+            (length-take-le _ _ (held_fits s.After-fold size _) ∙ ap (λ (m : ℕ). m * c.args.p.s) (sym size)),
       );
     }
 
@@ -114,8 +127,8 @@ returns c =
     let f = c.args.f in
     let s = goal.at.returns c in
     let x = given_at (planned p f) c.args.src.now c.args.first c.args.stride in
-    c.rebuild_rows.ensures
+    (rw (fields c.p.view_is) at c.rebuild_rows.ensures)
     ∙ ap (rows_of p f (walk_of p f).own (chosen_over p.k (walk_of p f)))
     (front c.fold.new.out _ (written s.After-fold (nodes_length s.After-list_nodes-count))
     ∙ c.fold.ensures ∙ ap (folded_of p f x) (plan_nodes_lem s.After-list_nodes-count))
-    ∙ column_rebuilt p c.requires.accepted.0 f c.requires.accepted.1 _
+    ∙ column_rebuilt p (accepted s.After-list_nodes-count) f c.requires.column_len.0 _
