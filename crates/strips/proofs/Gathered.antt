@@ -1,7 +1,6 @@
 -- The offsets of the sources whose weight has a bit: how they are gathered, where they lie, what adding at them
 -- gives.
 use mathlib.Core.Path.{◌≡◌, refl, sym, ap, ap₂, ◌∙◌}
-use mathlib.Core.Bool.{true}
 use mathlib.Core.List.{List, [], ◌∷◌, ◌++◌, append-nil}
 use Prim.Native.Nat.{ℕ, zero, suc, ◌+◌, ◌*◌, ◌/◌, ◌%◌, ◌^◌, ◌≤◌, ◌<◌}
 use native.Mathlib.Nat.{mod-lt, add-zero, zero-mul, suc-mul, le_refl}
@@ -108,7 +107,7 @@ added_gathered i (w ∷ ws) src first stride b h =
     ∙ ap (λ (p : ℕ). sum_of (bits_at i ws) src p stride) (omega arith))
 
 pub plane_gathered : (i : ℕ) (ws src x : List ℕ) (first stride : ℕ) (os y : List ℕ) → ((p : ℕ) → get_or src p 0 < 256)
-    → os ≡ offsets_of (bits_at i ws) first stride → y ≡ added_with true os src x → y ≡ plane_of i ws src first stride x
+    → os ≡ offsets_of (bits_at i ws) first stride → y ≡ added_with double os src x → y ≡ plane_of i ws src first stride x
 unfolding added_with plane_of
 plane_gathered i ws src x first stride os y h e f =
     f

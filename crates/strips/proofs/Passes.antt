@@ -1,6 +1,5 @@
 -- The passes over a plane: the parts of src that they read, four at a time, and what a pass leaves.
 use mathlib.Core.Path.{◌≡◌, refl, sym, ap, ap₂, ◌∙◌}
-use mathlib.Core.Bool.{Bool, false}
 use mathlib.Core.List.{List, [], ◌∷◌, ◌++◌}
 use Prim.Native.Nat.{ℕ, zero, suc, ◌+◌, ◌≤◌, ◌<◌}
 use native.Mathlib.Decide.{dec_lt}
@@ -9,10 +8,11 @@ use lib.ListN.{length, get_or, take, drop, replicate, length-drop, length-replic
 use lib.ListN.{drop_of_length-le, get_or-eq_default}
 use lib.Seq.{ext_get_or, get_or-take, get_or-drop, take-add, take-nil}
 use lib.Seq.{drop-cons, length-take-le}
+use Rattle.std.proofs.lemmas.List.{take-replicate}
 use Rattle.lists.proofs.Listed.{listed_length, listed_at, listed_ext}
 use Rattle.gf256.specs.Field.{◌⊕◌}
 use Rattle.gf256.proofs.Ring as R
-use Rattle.strips.specs.Planes.{added_at, doubled_if, added_with, part_of, added_four}
+use Rattle.strips.specs.Planes.{added_at, added_with, part_of, added_four}
 
 -- ---- the parts of src
 -- within a list the default does not count
@@ -20,6 +20,9 @@ default : (xs : List ℕ) (j d e : ℕ) → j < length xs → get_or xs j d ≡ 
 default [] j d e h = absurd (omega arith)
 default (x ∷ xs) zero d e h = refl
 default (x ∷ xs) (suc j) d e h = default xs j d e (omega arith)
+
+abbrev blank : ℕ → List ℕ
+blank m = replicate m 0
 
 module _ (os src : List ℕ) (j n : ℕ) where
   pub part_length : length (part_of os src j n) ≡ n
@@ -49,18 +52,19 @@ module _ (os src : List ℕ) (j n : ℕ) where
           get_or-take n (drop (get_or os j 0) src) b 0 l ∙ get_or-drop (get_or os j 0) src b 0
           ∙ ap (λ (o : ℕ). get_or src (o + b) 0) (default os j 0 (length src) h) ∙ sym (part_at b l)
 
-  pub part_past : (zeros : List ℕ) → zeros ≡ replicate 2048 0 → n ≤ 2048 → length os ≤ j
-      → take n zeros ≡ part_of os src j n
-  part_past zeros z k h =
-      ext_get_or 0 (take n zeros) (part_of os src j n) (size ∙ sym part_length) (λ b l. entry b (omega (arith, size)))
+  pub part_past : (m : ℕ) → n ≤ m → length os ≤ j → take n (blank m) ≡ part_of os src j n
+  part_past m k h =
+      ext_get_or 0 (take n (blank m)) (part_of os src j n) (size ∙ sym part_length) (λ b l. entry b (omega (arith, size)))
     where
-      size : length (take n zeros) ≡ n
-      size = length-take-le n zeros (rw (z, length-replicate) k)
+      front : take n (blank m) ≡ blank n
+      front = take-replicate n m 0 k
 
-      entry : (b : ℕ) → b < n → get_or (take n zeros) b 0 ≡ get_or (part_of os src j n) b 0
+      size : length (take n (blank m)) ≡ n
+      size = ap length front ∙ length-replicate n 0
+
+      entry : (b : ℕ) → b < n → get_or (take n (blank m)) b 0 ≡ get_or (part_of os src j n) b 0
       entry b l =
-          get_or-take n zeros b 0 l ∙ ap (λ (xs : List ℕ). get_or xs b 0) z ∙ get_or-replicate 2048 b 0 0 (omega arith)
-          ∙ sym (part_at b l ∙ past_end b h)
+          ap (λ (xs : List ℕ). get_or xs b 0) front ∙ get_or-replicate n b 0 0 l ∙ sym (part_at b l ∙ past_end b h)
 
 -- ---- four at a time
 added_append : (os ps src : List ℕ) (b : ℕ) → added_at (os ++ ps) src b ≡ added_at os src b ⊕ added_at ps src b
@@ -105,27 +109,27 @@ sort_four : (x a b c d : ℕ) → x ⊕ a ⊕ b ⊕ c ⊕ d ≡ x ⊕ (a ⊕ (b 
 sort_four x a b c d = simp R.add_assoc
 
 -- what a pass leaves
-pub added_pass : (d : Bool) (os src x : List ℕ) (j : ℕ)
-    → added_four d x (part_of os src j (length x)) (part_of os src (j + 1) (length x)) (part_of os src (j + 2) (length x))
-    (part_of os src (j + 3) (length x))
-    ≡ added_with d (take 4 (drop j os)) src x
-unfolding added_four added_with
-added_pass d os src x j =
-    listed_ext (length x) _ _ (λ b h.
-    sort_four _ _ _ _ _ ∙ ap (λ (z : ℕ). doubled_if d (get_or x b 0) ⊕ z) (sym (added_four_lem os src (length x) j b h)))
+module _ (g : ℕ → ℕ) (os src x : List ℕ) where
+  pub added_pass : (j : ℕ)
+      → added_four g x (part_of os src j (length x)) (part_of os src (j + 1) (length x)) (part_of os src (j + 2) (length x))
+      (part_of os src (j + 3) (length x))
+      ≡ added_with g (take 4 (drop j os)) src x
+  unfolding added_four added_with
+  added_pass j =
+      listed_ext (length x) _ _ (λ b h.
+      sort_four _ _ _ _ _ ∙ ap (λ (z : ℕ). g (get_or x b 0) ⊕ z) (sym (added_four_lem os src (length x) j b h)))
 
-both_passes : (d : Bool) (os ps src x : List ℕ)
-    → added_with false ps src (added_with d os src x) ≡ added_with d (os ++ ps) src x
-unfolding added_with
-both_passes d os ps src x =
-    rw (listed_length (length x) (λ b. doubled_if d (get_or x b 0) ⊕ added_at os src b))
-    (listed_ext (length x) _ _ (λ b h.
-    ap (λ (z : ℕ). z ⊕ added_at ps src b) (listed_at (length x) (λ b. doubled_if d (get_or x b 0) ⊕ added_at os src b) b 0 h)
-    ∙ R.add_assoc _ _ _ ∙ ap (λ (z : ℕ). doubled_if d (get_or x b 0) ⊕ z) (sym (added_append os ps src b))))
+  both_passes : (ps : List ℕ) → added_with (λ v. v) ps src (added_with g os src x) ≡ added_with g (os ++ ps) src x
+  unfolding added_with
+  both_passes ps =
+      rw (listed_length (length x) (λ b. g (get_or x b 0) ⊕ added_at os src b))
+      (listed_ext (length x) _ _ (λ b h.
+      ap (λ (z : ℕ). z ⊕ added_at ps src b) (listed_at (length x) (λ b. g (get_or x b 0) ⊕ added_at os src b) b 0 h)
+      ∙ R.add_assoc _ _ _ ∙ ap (λ (z : ℕ). g (get_or x b 0) ⊕ z) (sym (added_append os ps src b))))
 
 -- a pass after others
-pub added_more : (d : Bool) (os src x : List ℕ) (j : ℕ) (y z : List ℕ) → y ≡ added_with d (take j os) src x
-    → z ≡ added_with false (take 4 (drop j os)) src y → z ≡ added_with d (take (j + 4) os) src x
-added_more d os src x j y z e f =
-    f ∙ ap (added_with false (take 4 (drop j os)) src) e ∙ both_passes d (take j os) (take 4 (drop j os)) src x
-    ∙ ap (λ (ps : List ℕ). added_with d ps src x) (sym (take-add j 4 os))
+pub added_more : (g : ℕ → ℕ) (os src x : List ℕ) (j : ℕ) (y z : List ℕ) → y ≡ added_with g (take j os) src x
+    → z ≡ added_with (λ v. v) (take 4 (drop j os)) src y → z ≡ added_with g (take (j + 4) os) src x
+added_more g os src x j y z e f =
+    f ∙ ap (added_with (λ v. v) (take 4 (drop j os)) src) e ∙ both_passes g (take j os) src x (take 4 (drop j os))
+    ∙ ap (λ (ps : List ℕ). added_with g ps src x) (sym (take-add j 4 os))

@@ -1,10 +1,10 @@
 -- The laws of a strip cut out of a list: its length, the strip that is the whole list, and the strip that is lent.
-use mathlib.Core.Path.{◌≡◌, sym, ap, ◌∙◌}
-use mathlib.Core.List.{List}
-use Prim.Native.Nat.{ℕ, ◌+◌, ◌-◌, ◌≤◌, ◌<◌}
+use mathlib.Core.Path.{◌≡◌, refl, sym, ap, ◌∙◌}
+use mathlib.Core.List.{List, ◌∷◌}
+use Prim.Native.Nat.{ℕ, zero, suc, ◌+◌, ◌-◌, ◌≤◌, ◌<◌}
 use native.Mathlib.Nat.{zero-add}
 use native.Mathlib.Omega.{arith}
-use lib.ListN.{length, get_or, take, drop, length-drop}
+use lib.ListN.{length, get_or, take, drop, replicate, length-drop}
 use lib.Seq.{ext_get_or, get_or-take, get_or-drop, length-take-le}
 use Rattle.lists.specs.Listed.{listed}
 use Rattle.lists.proofs.Listed.{listed_length, listed_at, listed_ext, listed_get_or}
@@ -38,3 +38,9 @@ strip_lent x at s h =
 pub strip_part : (x : List ℕ) (at s : ℕ) → at + s ≤ length x → take (at + s - at) (drop at x) ≡ strip_at x at s
 strip_part x at s h =
     let n : at + s - at ≡ s = omega arith in ap (λ (m : ℕ). take m (drop at x)) n ∙ strip_lent x at s h
+
+-- a strip of one byte, many times
+pub replicated : (n v : ℕ) → replicate n v ≡ listed n (λ b. v)
+unfolding listed
+replicated zero v = refl
+replicated (suc n) v = ap (λ (l : List ℕ). v ∷ l) (replicated n v)

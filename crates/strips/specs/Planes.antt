@@ -6,17 +6,16 @@
 -- plane_of i ws src first stride x : one step of the rule: x doubled, and the sources added whose weight has bit i
 -- offsets_of ds first stride       : the offsets first + q * stride of the sources q whose bit is not 0
 -- added_at os src b                : the bytes at b past each of the offsets os, summed
--- doubled_if d v                   : v doubled if d, otherwise v
--- added_with d os src x            : x, doubled if d, with the strips of src at the offsets os added
+-- Gives post g                    : what a call gives of each byte is what g gives of it
+-- added_with g os src x            : g of each byte of x, with the strips of src at the offsets os added
 -- part_of os src j n               : n bytes of src at the offset with number j; zeros where there is no such offset
 -- sum_four v s0 s1 s2 s3 b         : v with the bytes at b of four strips added
--- added_four d x s0 s1 s2 s3       : x, doubled if d, with four strips added
+-- added_four g x s0 s1 s2 s3       : g of each byte of x, with four strips added
 -- Alike x s0 s1 s2 s3             : the four strips are as long as x
--- Lent zeros src os n             : what is lent to the passes: a strip of zeros, and n bytes of src at each offset
-use Rattle.std.specs.Prelude.{◌≡◌, Bool, cond, List, [], ◌∷◌, map, ℕ, zero, suc, ◌+◌, ◌/◌, ◌%◌, ◌^◌, ◌≤◌, ◌<◌, length, get_or, replicate}
+use Rattle.std.specs.Prelude.{◌≡◌, List, [], ◌∷◌, map, ℕ, zero, suc, ◌+◌, ◌/◌, ◌%◌, ◌^◌, ◌<◌, length, get_or}
 use Rattle.lists.specs.Listed.{listed}
 use Rattle.gf256.specs.Field.{◌⊕◌, double}
-use Rattle.strips.specs.Strips.{max_length, sum_of}
+use Rattle.strips.specs.Strips.{sum_of}
 
 unfoldable pub shifted_by : ℕ → List ℕ → List ℕ
 shifted_by i ws = map (λ w. w / 2 ^ i) ws
@@ -37,11 +36,11 @@ unfoldable pub added_at : List ℕ → List ℕ → ℕ → ℕ
 added_at [] src b = 0
 added_at (o ∷ os) src b = get_or src (o + b) 0 ⊕ added_at os src b
 
-abbrev pub doubled_if : Bool → ℕ → ℕ
-doubled_if d v = cond d (double v) v
+abbrev pub Gives : (ℕ → ℕ → Type 0) → (ℕ → ℕ) → Type 0
+Gives post g = (v w : ℕ) → v < 256 → post v w → w ≡ g v
 
-unfoldable pub added_with : Bool → List ℕ → List ℕ → List ℕ → List ℕ
-added_with d os src x = listed (length x) (λ b. doubled_if d (get_or x b 0) ⊕ added_at os src b)
+unfoldable pub added_with : (ℕ → ℕ) → List ℕ → List ℕ → List ℕ → List ℕ
+added_with g os src x = listed (length x) (λ b. g (get_or x b 0) ⊕ added_at os src b)
 
 -- Where there is no such offset, it is the end of src: past it every byte reads as 0.
 unfoldable pub part_of : List ℕ → List ℕ → ℕ → ℕ → List ℕ
@@ -50,16 +49,11 @@ part_of os src j n = listed n (λ b. get_or src (get_or os j (length src) + b) 0
 abbrev pub sum_four : ℕ → List ℕ → List ℕ → List ℕ → List ℕ → ℕ → ℕ
 sum_four v s0 s1 s2 s3 b = v ⊕ get_or s0 b 0 ⊕ get_or s1 b 0 ⊕ get_or s2 b 0 ⊕ get_or s3 b 0
 
-unfoldable pub added_four : Bool → List ℕ → List ℕ → List ℕ → List ℕ → List ℕ → List ℕ
-added_four d x s0 s1 s2 s3 = listed (length x) (λ b. sum_four (doubled_if d (get_or x b 0)) s0 s1 s2 s3 b)
+unfoldable pub added_four : (ℕ → ℕ) → List ℕ → List ℕ → List ℕ → List ℕ → List ℕ → List ℕ
+added_four g x s0 s1 s2 s3 = listed (length x) (λ b. sum_four (g (get_or x b 0)) s0 s1 s2 s3 b)
 
 pub record Alike (x s0 s1 s2 s3 : List ℕ) : Type 0 where
   pub same0 : length s0 ≡ length x
   pub same1 : length s1 ≡ length x
   pub same2 : length s2 ≡ length x
   pub same3 : length s3 ≡ length x
-
-pub record Lent (zeros src os : List ℕ) (n : ℕ) : Type 0 where
-  pub blank : zeros ≡ replicate max_length 0
-  pub short : n ≤ max_length
-  pub inside : (j : ℕ) → j < length os → get_or os j 0 + n ≤ length src

@@ -1,18 +1,9 @@
--- `strips::add_scaled` meets its contract. The invariant: the first b offsets of the strip are added, c times.
-use native.Mathlib.Omega.{arith}
-use Rattle.gf256.specs.Field.{◌⊕◌}
+-- `strips::add_scaled` meets its contract.
+use borrow.Author.Rules.{rules}
+use Rattle.gf256.specs.Field.{◌⊗◌}
 use Rattle.strips.specs.Strips.{added_scaled}
-use Rattle.strips.proofs.Added.{adding_none, adding_more, adding_all}
 use Rattle.strips.proofs.add_scaled.Goals as goal
-
-pub loop-b-init : goal.loop-b-init
-loop-b-init c = adding_none
-
-pub loop-b-preserved : goal.loop-b-preserved
-unfolding ◌⊕◌
-loop-b-preserved c =
-    adding_more c.loop-b.invariant (omega arith) c.requires c.mul.ensures
 
 pub returns : goal.returns
 unfolding added_scaled
-returns c = adding_all c.loop-b.invariant c.loop-b-test.false
+returns c = c.add_by.ensures (λ v. c.args.c ⊗ v) (λ v w h p. search rules)

@@ -1,6 +1,5 @@
 -- `strips::combine` meets its contract. The invariant: dst is the combination with the weights' bits from i on.
 use mathlib.Core.Path.{◌≡◌}
-use Prim.Native.Nat.{◌≤◌}
 use lib.ListN.{length}
 use Rattle.strips.specs.Strips.{combination_of}
 use Rattle.strips.specs.Planes.{shifted_by}
@@ -8,8 +7,4 @@ use Rattle.strips.proofs.combine.Given as goal
 
 abbrev pub invariant-loop-i : goal.invariant-loop-i
 invariant-loop-i l =
-    (l.i ≤ 8) × (length l.at ≡ 80) × (length l.dst ≡ length l.initial.dst)
-    × (l.dst ≡ combination_of (shifted_by l.i l.weights) l.src l.first l.stride (length l.initial.dst))
-
-abbrev pub decreases-loop-i : goal.decreases-loop-i
-decreases-loop-i l = l.i
+    l.dst ≡ combination_of (shifted_by l.i l.weights) l.src l.first l.stride (length l.fn.dst)

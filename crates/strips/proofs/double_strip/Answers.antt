@@ -6,18 +6,16 @@ use Rattle.strips.specs.Strips.{doubled_strip}
 use Rattle.lists.proofs.Written.{written_none, written_all, written_next, written_more}
 use Rattle.strips.proofs.double_strip.Goals as goal
 
-pub loop-b-init : goal.loop-b-init
-loop-b-init c = written_none _ _
+pub loop-v-init : goal.loop-v-init
+loop-v-init c = written_none _ _
 
-pub loop-b-preserved : goal.loop-b-preserved
-loop-b-preserved c =
-    let l = c.loop-b in
-    let g = c.args in
-    written_more _ l.b g.strip.now l.strip l.invariant (omega arith) _
-    (c.twice.ensures ∙ ap double (written_next _ l.b g.strip.now l.strip l.invariant (omega arith)))
+pub loop-v-preserved : goal.loop-v-preserved
+loop-v-preserved c =
+    let l = c.loop-v in
+    let strip = c.args.strip.now in
+    written_more _ l.v-index strip l.strip l.invariant (omega arith) _
+    (c.twice.ensures ∙ ap double (written_next _ l.v-index strip l.strip l.invariant (omega arith)))
 
 pub returns : goal.returns
 unfolding doubled_strip
-returns c =
-    let l = c.loop-b in
-    written_all _ l.b _ l.strip l.invariant (omega arith)
+returns c = written_all _ c.loop-v.v-index _ c.loop-v.strip c.loop-v.invariant (omega arith)

@@ -1,19 +1,8 @@
 -- `strips::fill` meets its contract.
-use mathlib.Core.Path.{refl}
-use native.Mathlib.Omega.{arith}
-use Rattle.lists.proofs.Written.{written_none, written_all, written_more}
+use mathlib.Core.Path.{◌∙◌}
+use borrow.Author.Rules.{rules}
+use Rattle.strips.proofs.Strip.{replicated}
 use Rattle.strips.proofs.fill.Goals as goal
 
-pub loop-b-init : goal.loop-b-init
-loop-b-init c = written_none _ _
-
-pub loop-b-preserved : goal.loop-b-preserved
-loop-b-preserved c =
-    let l = c.loop-b in
-    let g = c.args in
-    written_more _ l.b g.dst.now l.dst l.invariant (omega arith) _ refl
-
 pub returns : goal.returns
-returns c =
-    let l = c.loop-b in
-    written_all _ l.b _ l.dst l.invariant (omega arith)
+returns c = c.fill.ensures.after (search rules) ∙ replicated _ _
