@@ -70,7 +70,8 @@ fn recording(input: &[u8]) -> Recording
     }
 }
 
-// Writes a number in decimal digits.
+// Writes a number in decimal digits. By hand: of what `write!` puts into a buffer of fixed length a contract speaks only
+// where it ends well, and no contract says that it does.
 #[tactic(auto, unfolding(document::specs::Program::decimal))]
 fn put_decimal(out: &mut [u8], at: usize, v: usize) -> usize
     requires { (at + 2 ≤ length out.old) × (v < 100) }

@@ -34,6 +34,7 @@ fn read_full<R: Read>(input: &mut R, buf: &mut [u8]) -> io::Result<usize>
     ensures end { IfOk result (λ n. n < length buf.new → IsAtEnd (R.remaining input.new)) }
 {
     let mut done = 0;
+    // how far a turn comes is for the reader to say
     while done < buf.len() {
         let n = read_some(input, &mut buf[done..])?;
         if n == 0 {
@@ -44,26 +45,9 @@ fn read_full<R: Read>(input: &mut R, buf: &mut [u8]) -> io::Result<usize>
     Ok(done)
 }
 
-// Reads some of what follows, and answers whether there was any.
-fn skip_some(input: &mut impl Read) -> io::Result<bool> {
-    let mut rest = [0u8; 4096];
-    let n = read_some(input, &mut rest)?;
-    Ok(n > 0)
-}
-
-// Reads away what follows, so that whoever writes it is not cut off. A proved loop has to end, and nothing says that
-// the input does: the turns are counted up to a number that no run reaches.
-fn skip_rest(input: &mut impl Read) -> io::Result<()> {
-    for _ in 0..u64::MAX {
-        if !skip_some(input)? {
-            break;
-        }
-    }
-    Ok(())
-}
-
-// Writes what the program answers to the whole input, of whatever length. Said of any reader and writer whose bytes are
-// known: of the standard streams no contract says which bytes they give or take.
+// Writes what the program answers to the whole input, of whatever length: what follows the part that is kept is read away,
+// so that whoever writes it is not cut off. Said of any reader and writer whose bytes are known: of the standard streams no
+// contract says which bytes they give or take.
 fn answer_input<R: Read, W: Write>(from: &mut R, to: &mut W) -> io::Result<()>
     ensures { OnOk result (IfSome (R.remaining from.old)
         (λ xs. Appends (W.contents to.old) (W.contents to.new) (program_of xs))) }
@@ -71,7 +55,7 @@ fn answer_input<R: Read, W: Write>(from: &mut R, to: &mut W) -> io::Result<()>
     let mut input = rebuild_answer::input_buffer();
     let mut output = [0u8; rebuild_answer::COLUMN];
     let got = read_full(from, &mut input)?;
-    skip_rest(from)?;
+    io::copy(from, &mut io::sink())?;
     let n = rebuild_answer::answer(&input[..got], &mut output);
     to.write_all(&output[..n])
 }
