@@ -14,12 +14,12 @@ use Rattle.ksets.proofs.Ranked.{no_more, set_with, set_without}
 use Rattle.ksets.proofs.Ranked.{rank_none, rank_here, rank_other}
 
 -- ---- w of the sets have node b
-share_is : (m k w : ℕ) → w + sets m (suc k) ≡ sets (suc m) (suc k) → w ≡ sets m k
+with_is : (m k w : ℕ) → w + sets m (suc k) ≡ sets (suc m) (suc k) → w ≡ sets m k
 unfolding sets
-share_is m k w s = omega arith
+with_is m k w s = omega arith
 
-share_none : (m w : ℕ) → w + sets m 0 ≡ sets (suc m) 0 → w ≡ 0
-share_none m w s = omega (arith, sets_zero m, sets_zero (suc m))
+with_none : (m w : ℕ) → w + sets m 0 ≡ sets (suc m) 0 → w ≡ 0
+with_none m w s = omega (arith, sets_zero m, sets_zero (suc m))
 
 -- ---- from a position to its set
 no_node : (b k pos : ℕ) → set_at b 0 k pos ≡ []
@@ -34,9 +34,9 @@ none_left (suc k) pos h = absurd (not-suc-le-zero h)
 
 with_node : (b m k pos w : ℕ) → w + sets m k ≡ sets (suc m) k → pos < w
     → (0 < k) × (w ≡ sets m (k - 1)) × (set_at b (suc m) k pos ≡ b ∷ set_at (b + 1) m (k - 1) pos)
-with_node b m zero pos w s l = absurd (omega (arith, share_none m w s))
+with_node b m zero pos w s l = absurd (omega (arith, with_none m w s))
 with_node b m (suc k) pos w s l =
-    let e : w ≡ sets m k = share_is m k w s in (
+    let e : w ≡ sets m k = with_is m k w s in (
       omega arith,
       rw sub-one e,
       rw (sub-one, add-one) (set_with b m k pos (omega arith)),
@@ -46,7 +46,7 @@ without_node : (b m k pos w : ℕ) → w + sets m k ≡ sets (suc m) k → w ≤
     → set_at b (suc m) k pos ≡ set_at (b + 1) m k (pos - w)
 without_node b m zero pos w s l = no_more b (suc m) pos ∙ sym (no_more (b + 1) m (pos - w))
 without_node b m (suc k) pos w s l =
-    let e : w ≡ sets m k = share_is m k w s in
+    let e : w ≡ sets m k = with_is m k w s in
     rw (e, add-one) (set_without b m k pos (omega arith))
 
 -- The nodes below b are chosen, `at` of them, and written at the front of d; k of the n - b from b on are to follow.
@@ -148,13 +148,13 @@ rank_with : (b m w : ℕ) (rest : List ℕ) → w + sets m (length rest) ≡ set
     → get_or rest 0 0 ≡ b
     → (w ≡ sets m (length (drop 1 rest))) × (rank_of b (suc m) rest ≡ rank_of (b + 1) m (drop 1 rest))
 rank_with b m w [] s l e = absurd (not-suc-le-zero l)
-rank_with b m w (x ∷ xs) s l e = (share_is m (length xs) w s, rw add-one (rank_here b m x xs e))
+rank_with b m w (x ∷ xs) s l e = (with_is m (length xs) w s, rw add-one (rank_here b m x xs e))
 
 rank_without : (b m w : ℕ) (rest : List ℕ) → w + sets m (length rest) ≡ sets (suc m) (length rest)
     → (0 < length rest → get_or rest 0 0 ≡ b → ⊥) → rank_of b (suc m) rest ≡ w + rank_of (b + 1) m rest
-rank_without b m w [] s d = omega (arith, share_none m w s, rank_none b (suc m), rank_none (b + 1) m)
+rank_without b m w [] s d = omega (arith, with_none m w s, rank_none b (suc m), rank_none (b + 1) m)
 rank_without b m w (x ∷ xs) s d =
-    let e : w ≡ sets m (length xs) = share_is m (length xs) w s in
+    let e : w ≡ sets m (length xs) = with_is m (length xs) w s in
     rw (e, add-one) (rank_other b m x xs (d (omega arith)))
 
 module _ (n whole b pos total w : ℕ) (rest : List ℕ) (h : b < n) (c : Passed n whole rest b pos total)

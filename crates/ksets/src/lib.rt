@@ -37,7 +37,7 @@ fn row_of(n: usize) -> [usize; ENTRIES]
     row
 }
 
-// The number of sets of k of n nodes.
+// The number of sets of k of n nodes: an entry of Pascal's row, and none past it.
 #[tactic(auto, using(crate::proofs::Pascal::row_at))]
 pub fn count(n: usize, k: usize) -> usize
     requires { n ≤ max_nodes }
