@@ -10,6 +10,7 @@ mod cut;
 pub use cut::each_part;
 
 // Writes the bytes of src, and returns the position after them.
+// Buffer and position are no struct of their own: the public contracts by `Wrote` name both, and may not change.
 #[tactic(auto, unfolding(crate::specs::Put::put))]
 pub fn put_bytes(out: &mut [u8], at: usize, src: &[u8]) -> usize
     requires { at + length src.now ≤ length out.old }
@@ -21,6 +22,7 @@ pub fn put_bytes(out: &mut [u8], at: usize, src: &[u8]) -> usize
 }
 
 // Writes a number as one byte if it is wanted, and returns the position after what was written.
+// The number and the flag are no Option: the public contract names both, and may not change.
 #[tactic(auto, using(crate::proofs::Put::wrote_one, crate::proofs::Put::wrote_none))]
 pub fn put_if(out: &mut [u8], at: usize, v: usize, wanted: bool) -> usize
     requires { (at < length out.old) × (v < 256) }
