@@ -25,7 +25,8 @@ pub struct Numbers {
 }
 
 // The same as a profile: nodes, data nodes, rows, coupling constant, strip length in bytes, and the edition, which says
-// how a plan walks and how field 01 is written. There are accepted ones only: who writes one down must prove it.
+// how a plan walks and how field 01 is written; it stays a number, which definitions compare and field 01 holds. There
+// are accepted ones only: who writes one down must prove it.
 #[derive(Clone, Copy, PartialEq, Eq)]
 pub struct Profile {
     pub n: usize,

@@ -31,6 +31,7 @@ fn put_rows(array: &mut [u8], p: Profile, input: &[u8])
     let mut denominators = [0u8; Profile::MAX_NODES];
     coefficients::data_denominators(&mut denominators[..k]);
     array[..input.len()].copy_from_slice(input);
+    // A loop and no `each_part`: the nodes begin at k, in the column and in the number.
     for j in k..p.n {
         let at = j * width;
         put_parity(&mut array[at..at + width], p, input, &denominators[..k], j);

@@ -25,6 +25,7 @@ const WEIGHTS: usize = Profile::MAX_NODES * Profile::MAX_NODES;
 // half pairs and how many there are, and the weights at all nodes.
 #[derive(Clone, Copy)]
 pub struct HalfPairs {
+    // k for a node that is not named: `position_table` of specs/ says so.
     pub positions: [u8; Profile::MAX_NODES],
     pub halves: [u8; SIDE],
     pub count: usize,
@@ -119,17 +120,10 @@ fn put_weights(out: &mut [u8], p: Profile, nodes: &[u8], positions: &[u8])
     let k = p.k;
     let mut denominators = [0u8; Profile::MAX_NODES];
     coefficients::denominators(nodes, &mut denominators[..k]);
-    for j in 0..p.n {
-        let from = j * k;
-        put_row(
-            &mut out[from..from + k],
-            p,
-            nodes,
-            &denominators[..k],
-            positions,
-            j,
-        );
-    }
+    let denominators = &denominators[..k];
+    lists::each_part(out, k, p.n, |j, row| {
+        put_row(row, p, nodes, denominators, positions, j)
+    });
 }
 
 // The same, in a table that a call makes once.

@@ -154,6 +154,7 @@ impl<'a> Message<'a> {
             result out.new }
     {
         let mut next = at;
+        // By the number of the place: pairs of bytes would be read as places again.
         for i in 0..self.count() {
             next = self.put_strip_of(out, next, self.place(i), array);
         }

@@ -12,6 +12,8 @@ use document::{Node, Numbers, Place, Profile, Refusal, Row};
 
 // The three steps of document 01, by the nodes that they go over: the others of the lost node's group; those of other
 // groups at its local column; those of other groups at other local columns.
+//
+// A kind and no closure: `rebuild` asks for a step by its name, and `in_step` of specs/ is defined by it.
 #[derive(Clone, Copy)]
 pub enum Step {
     Own,
@@ -22,7 +24,8 @@ pub enum Step {
 // No plan of an accepted profile has more places: (24,20,4) has as many.
 pub const MAX_PLACES: usize = 38;
 
-// Whether the step goes over node j.
+// Whether the step goes over node j. Profile and lost node stay two parameters: every definition takes the two, and
+// clauses would only read them out of a struct again.
 pub fn in_step(step: Step, p: Profile, f: Node, j: usize) -> bool
     ensures { result ≡ in_step step p.a f j }
 {

@@ -221,6 +221,7 @@ fn put_rows(column: &mut [u8], folded: &[u8], p: Profile, f: Node, own: &[u8], c
         determinants: &determinants[..k],
     };
     let s = p.s;
+    // A loop and no `each_part`: a closure that holds `rows`, whose parts live for two lifetimes, gets no proof yet.
     for row in 0..p.a {
         rows.put(row, &mut column[row * s..row * s + s]);
     }

@@ -160,7 +160,7 @@ pub fn invert(mut s: [Line; SIDE], rows: usize, columns: usize) -> Result<[Line;
     Ok(t)
 }
 
-// The first column without a pivot: half the work, for a survey.
+// The first column without a pivot: half the work, for a survey. Its loop keeps no right half, so that the two stay two.
 pub fn judge(mut s: [Line; SIDE], rows: usize, columns: usize) -> Option<usize>
     requires { (rows ≤ side) × (columns ≤ side) }
     ensures { result ≡ option_map (λ e. e.column) (result_err (eliminated rows columns s (unit_square side))) }

@@ -1,4 +1,5 @@
 // The functions for a C host: plain numbers and byte slices over the entry points. include/whaupfield.h declares them.
+// C needs each of them with six numbers, and numbers for the outcomes of a survey.
 #![tactic(auto)]
 
 ghost use Rattle.std.specs.Prelude.{◌≡◌, ◌*◌, ◌^◌, ◌<◌, Ok};
