@@ -5,6 +5,7 @@
 ghost use Rattle.std.specs.Prelude.{◌≡◌, ◌*◌, ◌<◌, length, Ok, Err};
 ghost use Rattle.lists.specs.Put.{Wrote};
 ghost use Rattle.document.specs.Refusals.{tried};
+ghost use Rattle.document.specs.Accepted;
 ghost use Rattle.document.specs.Plan.{price_of};
 ghost use Rattle.document.specs.Message.{message_length};
 ghost use Rattle.document.specs.Bundle.{lost_content, lost_content_length, bundle_length, bundle_of, write_with, write_of};
@@ -33,11 +34,11 @@ fn bundle_length(p: Profile) -> usize
     message::strip_field(p, LOST, plan::price(p))
 }
 
-// Where the first strip starts.
-pub fn first_strip(p: Profile) -> usize
-    ensures { result ≡ first_strip p }
+// Where the first strip starts: the same for all profiles of the edition.
+pub fn first_strip(edition: u8) -> usize
+    ensures { (p : Accepted.Profile) → p.edition ≡ edition → result ≡ first_strip p }
 {
-    message::first_strip(p, LOST)
+    message::first_strip(edition, LOST)
 }
 
 // The content of field 02: the lost node and the recording.

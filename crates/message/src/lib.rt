@@ -6,11 +6,13 @@
 ghost use Rattle.std.specs.Prelude.{◌≡◌, ◌++◌, ◌+◌, ◌*◌, ◌/◌, ◌<◌, ◌≤◌, length, get_or};
 ghost use Rattle.lists.specs.Put.{Wrote};
 ghost use Rattle.lists.specs.Each.{Each};
-ghost use Rattle.fields.specs.Fields.{field_of};
+ghost use Rattle.fields.specs.Fields.{opening_length, field_of};
+ghost use Rattle.document.specs.Accepted;
 ghost use Rattle.document.specs.Profile.{max_strip};
 ghost use Rattle.document.specs.Places.{place, Within, place_at};
 ghost use Rattle.document.specs.Encoding.{strip_of};
-ghost use Rattle.document.specs.Message.{profile_content, strip_content, strip_field_length, strip_offset};
+ghost use Rattle.document.specs.Message.{profile_content, max_profile_content};
+ghost use Rattle.document.specs.Message.{strip_content, strip_field_length, strip_offset};
 ghost use Rattle.document.specs.Message.{head_length, message_length, strip_fields, message_of, strip_field_start};
 ghost use Rattle.message.specs.PlaceBytes.{places_from, Bounded};
 
@@ -32,13 +34,13 @@ pub struct Message<'a> {
     ghost bounded: { Bounded (length content.now) (length places.now / 2) },
 }
 
-// The length of fields 01 and 02, where the content of field 02 has m bytes.
-#[tactic(auto, using(document::proofs::Message::profile_short))]
-fn head_length(p: Profile, m: usize) -> usize
+// The length of fields 01 and 02, where the content of field 02 has m bytes: the same for all profiles of the edition.
+fn head_length(edition: u8, m: usize) -> usize
     requires { m < 65536 }
-    ensures { result ≡ head_length p m }
+    ensures length { (p : Accepted.Profile) → p.edition ≡ edition → result ≡ head_length p m }
+    ensures short { result ≤ opening_length + max_profile_content + (opening_length + m) }
 {
-    profile_field::field_length(p) + (OPENING + m)
+    profile_field::field_length(edition) + (OPENING + m)
 }
 
 // How far one field 03 starts from the next, and one strip from the next.
@@ -54,16 +56,15 @@ pub fn strip_field(p: Profile, m: usize, i: usize) -> usize
     requires { Bounded m i }
     ensures { result ≡ strip_field_start p m i }
 {
-    head_length(p, m) + i * strip_stride(p)
+    head_length(p.edition, m) + i * strip_stride(p)
 }
 
-// Where the first strip starts.
-#[tactic(auto, using(document::proofs::Message::profile_short))]
-pub fn first_strip(p: Profile, m: usize) -> usize
+// Where the first strip starts: the same for all profiles of the edition.
+pub fn first_strip(edition: u8, m: usize) -> usize
     requires { m < 65536 }
-    ensures { result ≡ head_length p m + strip_offset }
+    ensures { (p : Accepted.Profile) → p.edition ≡ edition → result ≡ head_length p m + strip_offset }
 {
-    head_length(p, m) + OPENING + PLACED
+    head_length(edition, m) + OPENING + PLACED
 }
 
 // The place that two bytes name, node first.

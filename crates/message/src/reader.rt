@@ -1,14 +1,44 @@
-// A message compared with what is wanted: the refusals 6 to 9.
+// A message compared with what is wanted: the refusals 6 to 9. The tests of one field 03 take the offset where it
+// starts.
 ghost use Rattle.std.specs.Prelude.{◌≡◌, ◌+◌, ◌/◌, ◌<◌, ◌≤◌, length, Ok, Err};
 ghost use Rattle.lists.specs.Listed.{all};
+ghost use Rattle.fields.specs.Fields.{opening_length};
 ghost use Rattle.document.specs.Refusals.{tried};
+ghost use Rattle.document.specs.Message.{opened, placed, fresh, strip_offset};
 ghost use Rattle.document.specs.Message.{head_length, formed, headed, message_tests};
 ghost use Rattle.message.specs.PlaceBytes.{places_from};
 ghost use Rattle.message.specs.Reader.{count_of, field_start, opened_in, placed_in, fresh_in, FirstNot};
 
 use crate::{Message, PLACED, place_in};
-use document::Refusal;
+use document::{Place, Profile, Recording, Refusal};
 use fields::OPENING;
+
+// Whether the field 03 that starts at `at` has its tag and its length.
+#[tactic(auto, unfolding(document::specs::Message::opened))]
+fn opened(p: Profile, b: &[u8], at: usize) -> bool
+    requires { at + opening_length ≤ length b.now }
+    ensures { result ≡ opened p.s b.now at }
+{
+    fields::opens(b, at, 3, PLACED + p.s)
+}
+
+// Whether it has the place q.
+#[tactic(auto, using(crate::proofs::Fit::placed_is))]
+fn placed(q: Place, b: &[u8], at: usize) -> bool
+    requires { at + opening_length + 2 ≤ length b.now }
+    ensures { result ≡ placed q b.now at }
+{
+    place_in(b, at + OPENING) == q
+}
+
+// Whether it is of the wanted recording.
+#[tactic(auto, using(crate::proofs::Fit::fresh_is))]
+fn fresh(r: Recording, b: &[u8], at: usize) -> bool
+    requires { at + strip_offset ≤ length b.now }
+    ensures { result ≡ fresh r b.now at }
+{
+    lists::same_at(b, at + OPENING + 2, &r.bytes())
+}
 
 // Bytes as long as the wanted message.
 #[derive(Clone, Copy)]
@@ -20,32 +50,30 @@ struct Received<'w, 'a, 'b> {
 
 impl<'w, 'a, 'b> Received<'w, 'a, 'b> {
     // Whether the field 03 of strip i has its tag and its length.
-    #[tactic(auto, using(crate::proofs::Fit::field_room), unfolding(document::specs::Message::opened))]
+    #[tactic(auto, using(crate::proofs::Fit::field_room))]
     fn opened(&self, i: usize) -> bool
         requires { i < count_of self.now.wanted.now }
         ensures { result ≡ opened_in self.now.wanted.now self.now.b.now i }
     {
-        let wanted = self.wanted;
-        fields::opens(self.b, wanted.field(i), 3, PLACED + wanted.profile.s)
+        opened(self.wanted.profile, self.b, self.wanted.field(i))
     }
 
     // Whether it has its place.
-    #[tactic(auto, using(crate::proofs::Fit::field_room, crate::proofs::Fit::placed_is))]
+    #[tactic(auto, using(crate::proofs::Fit::field_room))]
     fn placed(&self, i: usize) -> bool
         requires { i < count_of self.now.wanted.now }
         ensures { result ≡ placed_in self.now.wanted.now self.now.b.now i }
     {
-        place_in(self.b, self.wanted.field(i) + OPENING) == self.wanted.place(i)
+        placed(self.wanted.place(i), self.b, self.wanted.field(i))
     }
 
     // Whether it is of the wanted recording.
-    #[tactic(auto, using(crate::proofs::Fit::field_room, crate::proofs::Fit::fresh_is))]
+    #[tactic(auto, using(crate::proofs::Fit::field_room))]
     fn fresh(&self, i: usize) -> bool
         requires { i < count_of self.now.wanted.now }
         ensures { result ≡ fresh_in self.now.wanted.now self.now.b.now i }
     {
-        let want = self.wanted.recording.bytes();
-        lists::same_at(self.b, self.wanted.field(i) + OPENING + 2, &want)
+        fresh(self.wanted.recording, self.b, self.wanted.field(i))
     }
 
     // Whether all fields 03 have their tag and length.
@@ -78,10 +106,10 @@ impl<'a> Message<'a> {
             ≡ formed self.now.profile (length self.now.content.now) (length self.now.places.now / 2) b.now }
     {
         b.len() == self.field(self.count())
-            && profile_field::opened(self.profile, b, 0)
+            && profile_field::opened(self.profile.edition, b, 0)
             && fields::opens(
                 b,
-                profile_field::field_length(self.profile),
+                profile_field::field_length(self.profile.edition),
                 2,
                 self.content.len(),
             )
@@ -97,7 +125,7 @@ impl<'a> Message<'a> {
         profile_field::same_content(self.profile, b, 0)
             && lists::same_at(
                 b,
-                profile_field::field_length(self.profile) + OPENING,
+                profile_field::field_length(self.profile.edition) + OPENING,
                 self.content,
             )
     }

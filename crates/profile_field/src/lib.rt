@@ -4,7 +4,9 @@
 ghost use Rattle.std.specs.Prelude.{◌≡◌, ◌+◌, ◌≤◌, length, take};
 ghost use Rattle.lists.specs.Put.{slice, same, Wrote};
 ghost use Rattle.fields.specs.Fields.{opening, opening_length, field_of};
-ghost use Rattle.document.specs.Message.{profile_content, profile_content_length, profile_field_length};
+ghost use Rattle.document.specs.Accepted;
+ghost use Rattle.document.specs.Message.{profile_content, profile_content_length, max_profile_content};
+ghost use Rattle.document.specs.Message.{profile_field_length};
 
 use document::Profile;
 use fields::OPENING;
@@ -12,12 +14,14 @@ use fields::OPENING;
 // How many bytes the longest content takes.
 pub const MAX_CONTENT: usize = 7;
 
-// How long the content is: six bytes in edition 1, and one more, the edition, in edition 2.
+// How long the content is: six bytes in edition 1, and one more, the edition, in edition 2. Said, as below, of all
+// profiles of that edition, accepted or not.
 #[tactic(auto, using(document::proofs::Message::profile_length))]
-fn content_length(p: Profile) -> usize
-    ensures { result ≡ profile_content_length p }
+fn content_length(edition: u8) -> usize
+    ensures length { (p : Accepted.Profile) → p.edition ≡ edition → result ≡ profile_content_length p }
+    ensures short { result ≤ max_profile_content }
 {
-    match p.edition {
+    match edition {
         1 => 6,
         _ => MAX_CONTENT,
     }
@@ -26,10 +30,10 @@ fn content_length(p: Profile) -> usize
 // What the field opens with, its tag and its length: 'the three bytes 01 00 06', in edition 2 01 00 07. Document 01 asks
 // for fixed byte strings here.
 #[tactic(auto, using(document::proofs::Message::profile_length), unfolding(fields::specs::Fields::opening, fields::specs::Fields::two_bytes))]
-fn opening_bytes(p: Profile) -> [u8; OPENING]
-    ensures { result ≡ opening 1 (profile_content_length p) }
+fn opening_bytes(edition: u8) -> [u8; OPENING]
+    ensures { (p : Accepted.Profile) → p.edition ≡ edition → result ≡ opening 1 (profile_content_length p) }
 {
-    match p.edition {
+    match edition {
         1 => *b"\x01\x00\x06",
         _ => *b"\x01\x00\x07",
     }
@@ -43,12 +47,12 @@ fn content_bytes(p: Profile) -> [u8; MAX_CONTENT]
     [p.n as u8, p.k as u8, p.a as u8, p.t, high, low, p.edition]
 }
 
-// The length of the field, tag and length counted in.
-#[tactic(auto, using(document::proofs::Message::profile_short))]
-pub fn field_length(p: Profile) -> usize
-    ensures { result ≡ profile_field_length p }
+// The length of the field, tag and length counted in: that of every profile of the edition.
+pub fn field_length(edition: u8) -> usize
+    ensures length { (p : Accepted.Profile) → p.edition ≡ edition → result ≡ profile_field_length p }
+    ensures short { result ≤ opening_length + max_profile_content }
 {
-    OPENING + content_length(p)
+    OPENING + content_length(edition)
 }
 
 // Writes the field, and returns the position after it.
@@ -57,16 +61,17 @@ pub fn put(out: &mut [u8], at: usize, p: Profile) -> usize
     ensures { Wrote out.old at (field_of 1 (profile_content p)) result out.new }
 {
     let content = content_bytes(p);
-    let after_opening = lists::put_bytes(out, at, &opening_bytes(p));
-    lists::put_bytes(out, after_opening, &content[..content_length(p)])
+    let after_opening = lists::put_bytes(out, at, &opening_bytes(p.edition));
+    lists::put_bytes(out, after_opening, &content[..content_length(p.edition)])
 }
 
-// Whether the field that starts at `at` has the tag and the length that this profile's has.
-pub fn opened(p: Profile, b: &[u8], at: usize) -> bool
+// Whether the field that starts at `at` has the tag and the length that those of profiles of the edition have.
+pub fn opened(edition: u8, b: &[u8], at: usize) -> bool
     requires { at + opening_length ≤ length b.now }
-    ensures { result ≡ same (slice b.now at opening_length) (opening 1 (profile_content_length p)) }
+    ensures { (p : Accepted.Profile) → p.edition ≡ edition
+        → result ≡ same (slice b.now at opening_length) (opening 1 (profile_content_length p)) }
 {
-    lists::same_at(b, at, &opening_bytes(p))
+    lists::same_at(b, at, &opening_bytes(edition))
 }
 
 // Whether its content is that of this profile.
@@ -76,5 +81,5 @@ pub fn same_content(p: Profile, b: &[u8], at: usize) -> bool
         ≡ same (slice b.now (at + opening_length) (profile_content_length p)) (profile_content p) }
 {
     let content = content_bytes(p);
-    lists::same_at(b, at + OPENING, &content[..content_length(p)])
+    lists::same_at(b, at + OPENING, &content[..content_length(p.edition)])
 }

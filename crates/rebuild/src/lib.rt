@@ -283,7 +283,7 @@ fn rebuild_with(
         return Err(Refusal::BufferLength);
     }
     bundle::check(p, f, r, bundle)?;
-    let first = bundle::first_strip(p);
+    let first = bundle::first_strip(p.edition);
     let stride = message::strip_stride(p);
     rebuild_column(column, bundle, first, stride, p, f);
     Ok(0)
