@@ -93,7 +93,7 @@ pub fn put_multiple(out: &mut [u8], strip: &[u8], d: u8)
     ensures { out.new ≡ multiple_of d strip.now }
 {
     if d == 1 {
-        out.copy_from_slice(strip);
+        lists::put_bytes(out, 0, strip);
         return;
     }
     for (b, x) in strip.iter().enumerate() {

@@ -30,7 +30,7 @@ fn put_rows(array: &mut [u8], p: Profile, input: &[u8])
     let width = p.a * p.s;
     let mut denominators = [0u8; Profile::MAX_NODES];
     coefficients::data_denominators(&mut denominators[..k]);
-    array[..input.len()].copy_from_slice(input);
+    lists::put_bytes(array, 0, input);
     // A loop and no `each_part`: the nodes begin at k, in the column and in the number.
     for j in k..p.n {
         let at = j * width;

@@ -5,8 +5,8 @@ use Prim.Native.Nat.{ℕ, ◌+◌, ◌≤◌, ◌<◌}
 use native.Mathlib.Nat.{add-zero, zero-add}
 use native.Mathlib.Numerals.{add-one}
 use native.Mathlib.Omega.{arith}
-use lib.ListN.{length, set, take, drop, length-append, length-take, take-append-drop}
-use lib.Seq.{set_split, take_at, drop_at, drop-drop, drop-length, length-take-le}
+use lib.ListN.{length, get_or, set, take, drop, length-append, length-take, length-drop, take-append-drop}
+use lib.Seq.{set_split, take_at, take-suc, drop_at, drop-drop, drop-length, length-take-le}
 use Rattle.lists.specs.Put.{put, Wrote}
 
 pub set_put : (d : List ℕ) (i b : ℕ) → i < length d → set d i b ≡ put d i (b ∷ [])
@@ -34,6 +34,23 @@ module _ (d : List ℕ) (at : ℕ) (h : at ≤ length d) where
       sym (drop-drop (length v) n (take at d ++ (u ++ q))) ∙ ap (drop (length v)) r ∙ drop-drop (length v) n d in
       let l : at + length (u ++ v) ≡ n + length v = simp length-append (omega arith) in
       rw (t, s, l) (simp append_assoc)
+
+  put_length : (u : List ℕ) → at + length u ≤ length d → length (put d at u) ≡ length d
+  unfolding put
+  put_length u k = simp (length-append, length-take-le at d h, length-drop) (omega arith)
+
+-- a loop that writes a list entry by entry
+pub put_next : (d s : List ℕ) (at i : ℕ) → at + length s ≤ length d → i < length s
+    → set (put d at (take i s)) (at + i) (get_or s i 0) ≡ put d at (take (i + 1) s)
+put_next d s at i h k =
+    let a : at ≤ length d = omega arith in
+    let l : length (take i s) ≡ i = length-take-le i s (omega arith) in
+    let n : length (put d at (take i s)) ≡ length d = put_length d at a (take i s) (omega arith) in
+    let e : take (i + 1) s ≡ take i s ++ (get_or s i 0 ∷ []) = rw (add-one, take-suc s i 0 k) in
+    set_put _ _ _ (omega arith)
+    ∙ ap (λ (m : ℕ). put (put d at (take i s)) (at + m) (get_or s i 0 ∷ [])) (sym l)
+    ∙ put_put d at a (take i s) (get_or s i 0 ∷ [])
+    ∙ ap (put d at) (sym e)
 
 -- the whole list written anew
 pub put_whole : (d u : List ℕ) → length u ≡ length d → put d 0 u ≡ u

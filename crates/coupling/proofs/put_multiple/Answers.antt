@@ -1,8 +1,9 @@
 -- `coupling::put_multiple` meets its contract. The invariant: the first b bytes are multiplied.
-use mathlib.Core.Path.{ap, ◌∙◌}
+use mathlib.Core.Path.{sym, ap, ◌∙◌}
 use native.Mathlib.Omega.{arith}
 use lib.ListN.{get_or}
 use Rattle.lists.specs.Listed.{listed}
+use Rattle.lists.proofs.Put.{put_whole}
 use Rattle.lists.proofs.Written.{written_none, written_all, written_more}
 use Rattle.gf256.specs.Field.{◌⊗◌}
 use Rattle.coupling.specs.Pairs.{multiple_of}
@@ -11,7 +12,7 @@ use Rattle.coupling.proofs.put_multiple.Goals as goal
 
 pub returns-then-d-eq1 : goal.returns-then-d-eq1
 returns-then-d-eq1 c =
-    c.copy_from_slice.ensures.after
+    c.put_bytes.ensures.holds ∙ put_whole c.args.out.now c.args.strip.now (sym c.requires)
     ∙ multiple_one c.args.d c.args.strip.now c.if-d-eq1.true (λ b. omega (arith, c.type_inv.strip b))
 
 pub loop-b-init : goal.loop-b-init

@@ -1,24 +1,26 @@
 -- `encode::put_rows` meets its contract. The invariant: the columns before node j are those of the base symbols.
-use mathlib.Core.Path.{◌≡◌, subst, ◌∙◌}
+use mathlib.Core.Path.{◌≡◌, ap, subst, ◌∙◌}
 use Prim.Native.Nat.{ℕ, ◌*◌}
 use native.Mathlib.Omega.{arith}
 use borrow.Author.Rules.{rules}
 use lib.ListN.{take}
+use Rattle.lists.specs.Put.{put}
 use Rattle.document.specs.Encoding.{base_at, laid_out, plain}
 use Rattle.document.proofs.Fields.{fields, is_accepted}
 use Rattle.encode.proofs.Rows.{data_columns, first_columns, next_column, all_columns}
 use Rattle.encode.proofs.put_rows.Goals as goal
 
 pub loop-j-init : goal.loop-j-init
+unfolding put
 loop-j-init c =
     let p = c.args.p in
     let acc = is_accepted c.p.view_is c.p.invariant in
     let x = c.args.input.now in
     rw (fields c.p.view_is) (record {
       size = search rules;
-      columns = first_columns p (base_at p x) p.k c.copy_from_slice.new.self _
-          (c.copy_from_slice.ensures.after
-          ∙ data_columns p x acc c.requires.0 (λ e. omega (arith, c.type_inv.input e)));
+      columns = ap (take (p.k * (p.a * p.s))) c.put_bytes.ensures.holds
+          ∙ first_columns p (base_at p x) p.k x _
+          (data_columns p x acc c.requires.0 (λ e. omega (arith, c.type_inv.input e)));
     })
 
 pub loop-j-preserved : goal.loop-j-preserved
