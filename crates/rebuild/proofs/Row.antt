@@ -1,4 +1,4 @@
--- A row of the lost column: what `sum_row` writes, and that it is the algebra's rebuilt row.
+-- A row of the lost column: what `Rows::sum` writes, and that it is the algebra's rebuilt row.
 use mathlib.Core.Path.{◌≡◌, refl, sym, ap, ap₂, ◌∙◌}
 use mathlib.Core.Logic.{◌≢◌}
 use mathlib.Core.List.{List}

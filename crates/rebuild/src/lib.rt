@@ -117,14 +117,6 @@ fn divided_weights(nodes: &[u8], denominators: &[u8], at: u8, determinants: &[u8
     gf256::divide_all(out, determinants);
 }
 
-// Where node j stands in a list; its length if it does not.
-fn place_in(nodes: &[u8], j: usize) -> usize
-    ensures { result ≡ position_in nodes.now j }
-{
-    let found = nodes.iter().position(|x| usize::from(*x) == j);
-    found.unwrap_or(nodes.len())
-}
-
 // What each row of the lost node f's column is made of: the folded strips, of which the A-1 of f's group stand first, the
 // nodes that they were folded for, and what does not depend on the row.
 #[derive(Drop)]
@@ -195,7 +187,7 @@ impl Rows<'_> {
         self.put_coefficients(i, &mut coefficients[..k]);
         // Node i of the group. The lost node, which is not in `own`, gives no strip: for its row the place is not read.
         let member = f.0 / p.a * p.a + i;
-        let at = place_in(own, member);
+        let at = lists::position_of(own, member);
         self.sum(i, &coefficients[..k], at, dst);
     }
 }

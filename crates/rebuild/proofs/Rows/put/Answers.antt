@@ -18,4 +18,4 @@ returns c =
     let written = ap length c.put_coefficients.ensures ∙ coefficients_length r.p r.f r.chosen.now c.args.i in
     (rw (fields c.p.view_is) at c.sum.ensures)
     ∙ ap₂ (λ (at : ℕ) (cs : List ℕ). row_from r.p r.f c.args.i at cs r.folded.now)
-    (rw (fields c.p.view_is) at c.place_in-at.ensures) (front held _ written ∙ c.put_coefficients.ensures)
+    (rw (fields c.p.view_is) at c.position_of-at.ensures) (front held _ written ∙ c.put_coefficients.ensures)
