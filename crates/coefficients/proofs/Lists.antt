@@ -4,8 +4,8 @@ use mathlib.Core.List.{List, [], ◌∷◌, ◌++◌}
 use Prim.Native.Nat.{ℕ, zero, suc, ◌≤◌, ◌<◌}
 use native.Mathlib.Nat.{le_of_suc-le-suc, not-suc-le-zero}
 use native.Mathlib.Decide.{ℕ_discrete}
-use lib.ListN.{length, length-set, get_or, set, take, drop, replicate}
-use lib.Seq.{ext_get_or, get_or-set_same, get_or-set_other, set-append_left}
+use lib.ListN.{length, length-set, length-replicate, get_or, set, take, drop, replicate}
+use lib.Seq.{ext_get_or, get_or-set_same, get_or-set_other, length_front, length-take-le, set-append_left}
 use Rattle.lists.specs.Listed.{listed}
 use Rattle.lists.proofs.Listed.{listed_length, listed_at, listed_take, listed_get_or}
 use Rattle.gf256.specs.Field.{◌⊕◌, total_of, products_of}
@@ -62,6 +62,12 @@ padded_front (suc m) (suc n) (x ∷ xs) h = ap (λ (ys : List ℕ). x ∷ ys) (p
 
 -- an entry of the front stored anew
 module _ (n q : ℕ) (xs : List ℕ) {k : ℕ} (e : length xs ≡ k) where
+  pub set_size : k ≤ n → length (set (xs ++ drop k (replicate n 1)) q 1) ≡ n
+  set_size h =
+      length-set (xs ++ drop k (replicate n 1)) q 1
+      ∙ length_front (replicate n 1) xs k (e ∙ sym (length-take-le k (replicate n 1) (rw length-replicate h)))
+      ∙ length-replicate n 1
+
   pub set_front : (m : ℕ) → q < k → m ≤ n
       → take m (set (xs ++ drop k (replicate n 1)) q 1) ≡ padded_to m (set xs q 1)
   set_front m l h =

@@ -4,13 +4,23 @@ use mathlib.Core.List.{List}
 use Prim.Native.Nat.{ℕ, suc, ◌+◌, ◌-◌, ◌≤◌, ◌<◌}
 use native.Mathlib.Numerals.{add-one}
 use native.Mathlib.Omega.{arith}
+use lib.ListN.{get_or}
 use Rattle.std.specs.Prelude.{Some, None, Ok, Err}
 use Rattle.square.specs.declared.Line.{Line}
 use Rattle.square.specs.declared.Step.{Step}
 use Rattle.square.specs.Steps.{lifted, pivot_from}
 use Rattle.square.specs.Elimination.{clearing, end_from}
+use Rattle.square.specs.Columns.{EntriesOf}
 use Rattle.square.specs.Clearing.{StepOf, after_step}
 use Rattle.square.proofs.Steps.{left_next, stepped_ext}
+use Rattle.square.proofs.Pivots.{pivoted}
+
+-- the entry that the search finds in some column j is one to divide by
+pub reached_pivot : {rows r j p : ℕ} (a : List Line) {entries : List ℕ} → rows ≤ 80 → r < 80 → EntriesOf a j rows entries
+    → pivot_from a j r rows ≡ Some p → (r < 80) × (p < 80) × (0 < get_or entries p 0)
+reached_pivot {rows} {r} {j} {p} a few h column e =
+    let f = pivoted a j r rows p e in
+    (h, omega (arith, f.high), omega (arith, f.nonzero, (column.held p f.high).value))
 
 module _ (rows r : ℕ) (a t : List Line) where
   pub end_at : (n p : ℕ) → pivot_from a r r rows ≡ Some p

@@ -3,13 +3,13 @@
 use Rattle.std.proofs.Common.{arith, refl, sym, ◌∙◌}
 use Rattle.square.proofs.Pivots.{pivoted}
 use Rattle.square.proofs.Columns.{multiplier_of}
+use Rattle.square.proofs.Ends.{reached_pivot}
 use Rattle.square.proofs.Step.of.Goals as goal
 
 pub multipliers-c-requires : goal.multipliers-c-requires
 multipliers-c-requires c =
-    let f = pivoted _ _ _ _ _ (sym (c.in_ok-p.ensures _ _ c.column_of-entries.ensures)) in
-    let own = c.column_of-entries.ensures.held c.in_ok-p.p f.high in
-    (omega arith, omega (arith, f.high), omega (arith, f.nonzero, own.value))
+    reached_pivot _ (omega arith) (omega arith) c.column_of-entries.ensures
+    (sym (c.in_ok-p.ensures _ _ c.column_of-entries.ensures))
 
 pub invariant_of-result : goal.invariant_of-result
 invariant_of-result c =
