@@ -46,7 +46,7 @@
  * A host that fetches the planned strips itself can put one together. Up to version 0.2.0 a bundle had no run: such a
  * bundle is refused with 6.
  *
- * Stack, as measured: reading back takes up to 90 KB, a survey 29 KB, a rebuild 16 KB, encoding 5 KB, the other calls
+ * Stack, as measured: reading back takes up to 69 KB, a survey 22 KB, a rebuild 14 KB, encoding 5 KB, the other calls
  * less than 1 KB. A stack that is too small ends in a fault and not in a refusal.
  */
 #ifndef WHAUPFIELD_H

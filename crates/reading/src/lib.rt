@@ -186,7 +186,8 @@ fn put_data_in(
     put_columns(out, p, nodes, h, y);
 }
 
-// The same, with room for the strips of the named nodes.
+// The same, with room for the strips of the named nodes. Not inlined: the room is not there while the system is solved.
+#[inline(never)]
 fn put_data(
     out: &mut [u8],
     p: Profile,

@@ -139,7 +139,8 @@ impl Step {
     }
 }
 
-// The inverse of the square, if rows and columns are equally many.
+// The inverse of the square, if rows and columns are equally many. Not inlined: its squares leave the stack with it.
+#[inline(never)]
 pub fn invert(mut s: [Line; SIDE], rows: usize, columns: usize) -> Result<[Line; SIDE], Singular>
     requires { (rows ≤ side) × (columns ≤ side) }
     ensures { result ≡ eliminated rows columns s (unit_square side) }
