@@ -53,7 +53,6 @@ fn numbers(input: &[u8]) -> Numbers
 }
 
 // The wanted recording: the scenario, then the run, high byte first.
-#[tactic(auto, unfolding(document::specs::Program::wanted_recording))]
 fn recording(input: &[u8]) -> Recording
     ensures { result ≡ wanted_recording input.now }
 {
